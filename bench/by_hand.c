@@ -1,9 +1,9 @@
-/* What bench/c_library measures the library against: the four formats of docs/bench.md by hand, for fast C that fetches a word once.
-   Nothing is proved of it; bench/c_library compares its answers with those of the library. */
-#include "by_hand.h"
+/* The four formats of docs/bench.md by hand, for fast C that loads a word once: one of the ways of bench/library.c.
+   Nothing is proved of it; its answers are compared with those of the other ways. Nothing is told of a rejection. */
+#include "ways.h"
 
 #ifndef TD_LOAD
-#define TD_LOAD(word) __atomic_load_n(word, __ATOMIC_RELAXED)
+#define TD_LOAD(word) __atomic_load_n(word, __ATOMIC_ACQUIRE)
 #endif
 
 /* Numbers that begin at byte k of a word. */
@@ -14,36 +14,40 @@ static inline uint32_t big16(uint64_t word, unsigned k) { return __builtin_bswap
 enum { VLAN = 0x8100, TYPES = 0x0600, LENGTHS = 1500 };
 
 /* Cells: Type, Vlan, Payload. */
-bool ethernet_by_hand(const uint64_t *words, uint32_t length, uint64_t *cells, uint32_t *position) {
+bool by_hand_ethernet(const uint64_t *words, uint32_t length, struct ethernet_ETHERNET_r *r, struct td_outcome *outcome) {
   if (length < 14) return false;
   uint64_t word = TD_LOAD(words + 1);
   uint32_t kind = big16(word, 4), at = 14;
   if (kind == VLAN) {
     if (length < 18) return false;
-    cells[1] = big16(word, 6) & 0xfff;
+    r->Vlan = big16(word, 6) & 0xfff;
     kind = big16(TD_LOAD(words + 2), 0);
     at = 18;
   }
   if (kind > LENGTHS ? kind < TYPES : length - at < kind) return false;
-  cells[0] = kind;
-  cells[2] = at;
-  *position = length;
+  r->Type = kind;
+  r->Payload = at;
+  outcome->reason = TD_NO_REASON;
+  outcome->position = length;
+  outcome->count = 0;
   return true;
 }
 
 /* Cells: Protocol, Source, Destination, Payload, Length. */
-bool ipv4_by_hand(const uint64_t *words, uint32_t length, uint32_t packet, uint64_t *cells, uint32_t *position) {
+bool by_hand_ipv4(const uint64_t *words, uint32_t length, uint32_t packet, struct ipv4_IPV4_r *r, struct td_outcome *outcome) {
   if (length < 20) return false;
   uint64_t word = TD_LOAD(words);
   uint32_t head = 4 * (word & 15), total = big16(word, 2);
   if ((word >> 4 & 15) != 4 || head < 20 || total < head || total > packet || total > length) return false;
   word = TD_LOAD(words + 1);
-  cells[0] = word >> 8 & 255;
-  cells[1] = big32(word, 4);
-  cells[2] = big32(TD_LOAD(words + 2), 0);
-  cells[3] = head;
-  cells[4] = total - head;
-  *position = total;
+  r->Protocol = word >> 8 & 255;
+  r->Source = big32(word, 4);
+  r->Destination = big32(TD_LOAD(words + 2), 0);
+  r->Payload = head;
+  r->Length = total - head;
+  outcome->reason = TD_NO_REASON;
+  outcome->position = total;
+  outcome->count = 0;
   return true;
 }
 
@@ -81,7 +85,7 @@ static inline bool is_length(uint32_t kind, uint32_t size) {
 }
 
 /* Cells: Mss, WindowScale, SackPermitted, TsVal, TsEcr, Data. */
-bool tcp_by_hand(const uint64_t *words, uint32_t length, uint32_t segment, uint64_t *cells, uint32_t *position) {
+bool by_hand_tcp(const uint64_t *words, uint32_t length, uint32_t segment, struct tcp_TCP_r *r, struct td_outcome *outcome) {
   if (length < 20) return false;
   bytes b = {words, 1, TD_LOAD(words + 1)};
   uint32_t end = 4 * (byte(&b, 12) >> 4);
@@ -92,21 +96,23 @@ bool tcp_by_hand(const uint64_t *words, uint32_t length, uint32_t segment, uint6
     if (at == end) return false;
     uint32_t size = byte(&b, at);
     if (!is_length(kind, size) || end - at < size - 1) return false;
-    if (kind == 2) cells[0] = number(&b, at + 1, 2);
-    if (kind == 3) cells[1] = byte(&b, at + 1);
-    if (kind == 4) cells[2] = 1;
+    if (kind == 2) r->Mss = number(&b, at + 1, 2);
+    if (kind == 3) r->WindowScale = byte(&b, at + 1);
+    if (kind == 4) r->SackPermitted = 1;
     if (kind == 8) {
-      cells[3] = number(&b, at + 1, 4);
-      cells[4] = number(&b, at + 5, 4);
+      r->TsVal = number(&b, at + 1, 4);
+      r->TsEcr = number(&b, at + 5, 4);
     }
     at += size - 1;
   }
-  cells[5] = end;
-  *position = segment;
+  r->Data = end;
+  outcome->reason = TD_NO_REASON;
+  outcome->position = segment;
+  outcome->count = 0;
   return true;
 }
 
-static bool is_packet(const uint64_t *words, uint32_t length, uint64_t *cells) {
+static bool is_packet(const uint64_t *words, uint32_t length, struct rndis_RNDIS_r *r) {
   if (length < 44) return false;
   uint64_t word = TD_LOAD(words + 1);
   uint32_t offset = low32(word, 0), size = low32(word, 4);
@@ -115,49 +121,51 @@ static bool is_packet(const uint64_t *words, uint32_t length, uint64_t *cells) {
   word = TD_LOAD(words + 3);
   uint32_t count = low32(word, 0), info_offset = low32(word, 4), info = low32(TD_LOAD(words + 4), 0);
   if (count != 0 || (info != 0 && info_offset != 36) || info > offset - 36) return false;
-  cells[3] = 8 + offset;
-  cells[4] = size;
+  r->Data = 8 + offset;
+  r->DataLength = size;
   return true;
 }
 
-static bool is_request(const uint64_t *words, uint32_t length, uint64_t *cells) {
+static bool is_request(const uint64_t *words, uint32_t length, struct rndis_RNDIS_r *r) {
   if (length < 28) return false;
-  cells[2] = low32(TD_LOAD(words + 1), 0);
+  r->RequestId = low32(TD_LOAD(words + 1), 0);
   uint64_t word = TD_LOAD(words + 2);
   uint32_t info = low32(word, 0);
   if (info > length - 28 || (info != 0 && low32(word, 4) != 20)) return false;
-  cells[3] = 28;
-  cells[4] = info;
+  r->Data = 28;
+  r->DataLength = info;
   return true;
 }
 
-static bool is_body(uint32_t type, const uint64_t *words, uint32_t length, uint64_t *cells) {
+static bool is_body(uint32_t type, const uint64_t *words, uint32_t length, struct rndis_RNDIS_r *r) {
   switch (type) {
-    case 1: return is_packet(words, length, cells);
+    case 1: return is_packet(words, length, r);
     case 2:
       if (length != 24) return false;
-      cells[2] = low32(TD_LOAD(words + 1), 0);
+      r->RequestId = low32(TD_LOAD(words + 1), 0);
       return true;
     case 3:
     case 8:
       if (length != 12) return false;
-      cells[2] = low32(TD_LOAD(words + 1), 0);
+      r->RequestId = low32(TD_LOAD(words + 1), 0);
       return true;
     case 4:
-    case 5: return is_request(words, length, cells);
+    case 5: return is_request(words, length, r);
     case 6: return length == 12;
     default: return false;
   }
 }
 
 /* Cells: Type, Length, RequestId, Data, DataLength. */
-bool rndis_by_hand(const uint64_t *words, uint32_t length, uint32_t room, uint64_t *cells, uint32_t *position) {
+bool by_hand_rndis(const uint64_t *words, uint32_t length, uint32_t room, struct rndis_RNDIS_r *r, struct td_outcome *outcome) {
   if (length < 8) return false;
   uint64_t word = TD_LOAD(words);
   uint32_t type = low32(word, 0), size = low32(word, 4);
-  if (size < 8 || size > room || size > length || !is_body(type, words, size, cells)) return false;
-  cells[0] = type;
-  cells[1] = size;
-  *position = size;
+  if (size < 8 || size > room || size > length || !is_body(type, words, size, r)) return false;
+  r->Type = type;
+  r->Length = size;
+  outcome->reason = TD_NO_REASON;
+  outcome->position = size;
+  outcome->count = 0;
   return true;
 }

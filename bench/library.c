@@ -1,103 +1,113 @@
-/* Messages of docs/bench.md, validated by the library for C, by the C that td-c writes, and by hand: what bench/c_library builds and runs.
+/* Messages of docs/bench.md, validated by each way of ways.h: what bench/c_library builds and runs.
  *
- *     library FOLDER N [ROUNDS]
+ *     library FOLDER N ROUNDS
  *
- * FOLDER has the images of the four formats. The messages are made once. In each round each way validates all of them, format by format;
- * the lines tell, for each format and way, the least nanoseconds of a message. Before that the ways are compared, on the messages
- * and on each with a byte changed. With ROUNDS 0 the library alone validates each message once, for a profile. Compiled with COUNTED, the lines
- * tell loads in place of nanoseconds.
+ * The messages are made once. In each round each way validates all of them, format by format, each in the same loop; the lines tell, for each format and
+ * way, the least nanoseconds of a message. Before that the ways are compared, on the messages and on each with a byte changed. With ROUNDS 0 each way
+ * validates each message once, for a profile of the loops. Compiled with COUNTED, the lines tell loads in place of nanoseconds. Compiled with
+ * WITHOUT_LIBRARY, that way is left out; FOLDER has the images that it opens.
  */
-#include "by_hand.h"
-#include "made.h"
-#include "td.h"
 #include "ways.h"
+#include "made.h"
 #include <stdio.h>
 #include <stdlib.h>
+#include <string.h>
 #include <time.h>
 
-enum { FORMATS = 4, WAYS = 3, MOST_BYTES = 1536, MOST_IMAGE = 1 << 20 };
+enum { FORMATS = 4, MOST_BYTES = 1536, MOST_WAYS = 5 };
 
-static const char *const NAMES[FORMATS] = {"ethernet", "ipv4", "tcp", "rndis"};
-static const char *const ENTRIES[FORMATS] = {"ETHERNET", "IPV4", "TCP", "RNDIS"};
-static const char *const WAY_NAMES[WAYS] = {"library", "td-c", "by hand"};
-static const unsigned CELLS[FORMATS] = {3, 5, 6, 5};
+typedef struct {
+  uint32_t length;
+  uint64_t *words;
+} message;
+
+static volatile uint64_t sink;
 
 #ifdef COUNTED
 uint64_t counted_loads;
 #endif
 
-static td_session sessions[FORMATS];
-static uint32_t entries[FORMATS];
-static uint64_t library_loads;
+/* How a format's function is called. */
+#define CALL_ethernet(F, M, R, O) F((M)->words, (M)->length, R, O)
+#define CALL_ipv4(F, M, R, O) F((M)->words, (M)->length, (M)->length, R, O)
+#define CALL_tcp(F, M, R, O) F((M)->words, (M)->length, (M)->length, R, O)
+#define CALL_rndis(F, M, R, O) F((M)->words, (M)->length, (M)->length, R, O)
+#define RECORD_ethernet struct ethernet_ETHERNET_r
+#define RECORD_ipv4 struct ipv4_IPV4_r
+#define RECORD_tcp struct tcp_TCP_r
+#define RECORD_rndis struct rndis_RNDIS_r
+enum { FIRST_ethernet, FIRST_ipv4, FIRST_tcp, FIRST_rndis };
 
-static void stop(const char *what, long code) {
-  fprintf(stderr, "library: %s: %ld\n", what, code);
+/* The loop of a way over a format's messages, and one message's answer. No compiler knows which function is called. */
+#define LOOP(WAY, FORMAT, PARAMETERS)                                                        \
+  static bool (*const volatile of_##WAY##_##FORMAT) PARAMETERS = WAY##_##FORMAT;             \
+  __attribute__((noinline)) static void loop_##WAY##_##FORMAT(const message *m, uint32_t count) { \
+    bool (*const way) PARAMETERS = of_##WAY##_##FORMAT;                                      \
+    struct td_outcome outcome;                                                               \
+    uint64_t seen = 0;                                                                       \
+    outcome.position = 0;                                                                    \
+    for (uint32_t n = FIRST_##FORMAT; n < count; n += FORMATS) {                             \
+      RECORD_##FORMAT r = {0};                                                               \
+      seen += CALL_##FORMAT(way, &m[n], &r, &outcome);                                       \
+      seen += outcome.position;                                                              \
+    }                                                                                        \
+    sink = seen;                                                                             \
+  }                                                                                          \
+  static bool answer_##WAY##_##FORMAT(const message *m, void *r, struct td_outcome *o) {     \
+    return CALL_##FORMAT(of_##WAY##_##FORMAT, m, (RECORD_##FORMAT *)r, o);                   \
+  }
+FORMATS_OF(LOOP, by_hand)
+FORMATS_OF(LOOP, written)
+FORMATS_OF(LOOP, inlined)
+FORMATS_OF(LOOP, by_script)
+#ifndef WITHOUT_LIBRARY
+FORMATS_OF(LOOP, by_library)
+#endif
+
+typedef struct {
+  const char *name;
+  void (*loops[FORMATS])(const message *, uint32_t);
+  bool (*answers[FORMATS])(const message *, void *, struct td_outcome *);
+} way;
+
+#define WAY(NAME)                                                                  \
+  {#NAME,                                                                          \
+   {loop_##NAME##_ethernet, loop_##NAME##_ipv4, loop_##NAME##_tcp, loop_##NAME##_rndis}, \
+   {answer_##NAME##_ethernet, answer_##NAME##_ipv4, answer_##NAME##_tcp, answer_##NAME##_rndis}},
+static const way ways[] = {WAY(by_hand) WAY(written) WAY(inlined) WAY(by_script)
+#ifndef WITHOUT_LIBRARY
+                               WAY(by_library)
+#endif
+};
+enum { WAYS = sizeof ways / sizeof *ways };
+static const char *const NAMES[FORMATS] = {"ethernet", "ipv4", "tcp", "rndis"};
+
+static void stop(const char *what, uint32_t n) {
+  fprintf(stderr, "library: %s, message %u\n", what, (unsigned)n);
   exit(2);
 }
 
-static void open_session(const char *folder, int format) {
-  static uint8_t image[MOST_IMAGE];
-  char path[4096];
-  td_fault fault = {0, 0};
-  snprintf(path, sizeof path, "%s/%s.image", folder, NAMES[format]);
-  FILE *file = fopen(path, "rb");
-  if (!file) stop(path, 0);
-  size_t size = fread(image, 1, sizeof image, file);
-  fclose(file);
-  int32_t code = td_open(&sessions[format], image, size, &fault);
-  if (!code) code = td_entry(&sessions[format], ENTRIES[format], strlen(ENTRIES[format]), &entries[format]);
-  if (code) stop(path, code);
-}
-
-static void by_library(const message *m, answer *a) {
-  static td_call call;
-  call.entry = entries[m->format];
-  call.length = m->length;
-  call.arg_count = m->format != ETHERNET;
-  call.args[0] = m->length;
-  call.cell_count = CELLS[m->format];
-  memset(call.cells, 0, CELLS[m->format] * sizeof *call.cells);
-  int32_t code = td_validate(&sessions[m->format], m->words, (m->length + 7) / 8, &call);
-  if (code != TD_ACCEPTED && code != TD_REJECTED) stop("td_validate", code);
-  a->is_accepted = code == TD_ACCEPTED;
-  a->position = call.position;
-  memcpy(a->cells, call.cells, CELLS[m->format] * sizeof *call.cells);
-  library_loads += call.load_count;
-}
-
-static void by_hand(const message *m, answer *a) {
-  memset(a->cells, 0, CELLS[m->format] * sizeof *a->cells);
-  switch (m->format) {
-    case ETHERNET: a->is_accepted = ethernet_by_hand(m->words, m->length, a->cells, &a->position); break;
-    case IPV4: a->is_accepted = ipv4_by_hand(m->words, m->length, m->length, a->cells, &a->position); break;
-    case TCP: a->is_accepted = tcp_by_hand(m->words, m->length, m->length, a->cells, &a->position); break;
-    default: a->is_accepted = rndis_by_hand(m->words, m->length, m->length, a->cells, &a->position);
-  }
-}
-
-static void (*const WAYS_OF[WAYS])(const message *, answer *) = {by_library, by_td_c, by_hand};
-
-/* ---- The messages. */
-
 static message made(uint32_t n) {
   static uint8_t bytes[MOST_BYTES];
-  message m = {(int)(n % 4), (uint32_t)make_message(n, bytes), 0};
+  message m = {(uint32_t)make_message(n, bytes), 0};
   m.words = calloc((m.length + 7) / 8 + 1, sizeof *m.words);
   if (!m.words) stop("no memory", n);
   memcpy(m.words, bytes, m.length);
   return m;
 }
 
+/* Verdict, record and position are the same for all ways; by hand (the first way) nothing is told of a rejection. */
 static void compare(const message *m, uint32_t n) {
-  answer answers[WAYS];
-  for (int way = 0; way < WAYS; way++) WAYS_OF[way](m, &answers[way]);
-  for (int way = 1; way < WAYS; way++) {
-    const answer *a = &answers[0], *b = &answers[way];
-    int is_same = a->is_accepted == b->is_accepted;
-    /* By hand nothing is told of a rejection. */
-    if (is_same && (a->is_accepted || way == 1)) is_same = a->position == b->position;
-    if (is_same && a->is_accepted) is_same = memcmp(a->cells, b->cells, CELLS[m->format] * sizeof *a->cells) == 0;
-    if (!is_same) stop(WAY_NAMES[way], n);
+  struct td_outcome outcomes[MOST_WAYS];
+  unsigned char records[MOST_WAYS][64];
+  bool accepted[MOST_WAYS];
+  memset(records, 0, sizeof records);
+  for (int k = 0; k < WAYS; k++) accepted[k] = ways[k].answers[n % FORMATS](m, records[k], &outcomes[k]);
+  for (int k = 1; k < WAYS; k++) {
+    bool is_same = accepted[k] == accepted[0];
+    if (accepted[0]) is_same = is_same && outcomes[k].position == outcomes[0].position && !memcmp(records[k], records[0], sizeof records[0]);
+    else is_same = is_same && outcomes[k].position == outcomes[1].position && outcomes[k].reason == outcomes[1].reason;
+    if (!is_same) stop(ways[k].name, n);
   }
 }
 
@@ -116,56 +126,66 @@ static unsigned long compared(message *messages, uint32_t count) {
   return rows;
 }
 
-/* ---- Time. */
-
 static double now(void) {
   struct timespec t;
   clock_gettime(CLOCK_PROCESS_CPUTIME_ID, &t);
   return 1e9 * (double)t.tv_sec + (double)t.tv_nsec;
 }
 
-static double taken(void (*way)(const message *, answer *), const message *messages, uint32_t count, int format) {
-  answer a;
-  double begin = now();
+static double made_loads(void) {
 #ifdef COUNTED
-  uint64_t before = counted_loads + library_loads;
-#endif
-  for (uint32_t n = (uint32_t)format; n < count; n += 4) way(&messages[n], &a);
-#ifdef COUNTED
-  (void)begin;
-  return (double)(counted_loads + library_loads - before);
+#ifndef WITHOUT_LIBRARY
+  return (double)(counted_loads + loads_of_library());
 #else
-  return now() - begin;
+  return (double)counted_loads;
+#endif
+#else
+  return 0;
+#endif
+}
+
+/* Nanoseconds of a loop, or its loads. */
+static double taken(void (*loop)(const message *, uint32_t), const message *messages, uint32_t count) {
+  double loads = made_loads(), begin = now();
+  loop(messages, count);
+  double end = now();
+#ifdef COUNTED
+  return begin > end ? 0 : made_loads() - loads;
+#else
+  (void)loads;
+  return end - begin;
 #endif
 }
 
 int main(int argc, char **argv) {
-  if (argc < 3) {
-    fprintf(stderr, "usage: library FOLDER N [ROUNDS]\n");
+  if (argc != 4) {
+    fprintf(stderr, "usage: library FOLDER N ROUNDS\n");
     return 2;
   }
-  uint32_t count = (uint32_t)strtoul(argv[2], 0, 10) / 4 * 4;
-  int rounds = argc > 3 ? atoi(argv[3]) : 1;
+  uint32_t count = (uint32_t)strtoul(argv[2], 0, 10) / FORMATS * FORMATS;
+  int rounds = atoi(argv[3]);
   message *messages = calloc(count + 1, sizeof *messages);
   if (!messages || !count) stop("messages", count);
   for (uint32_t n = 0; n < count; n++) messages[n] = made(n);
-  for (int format = 0; format < FORMATS; format++) open_session(argv[1], format);
+#ifndef WITHOUT_LIBRARY
+  open_library(argv[1]);
+#endif
   if (!rounds) {
-    for (int format = 0; format < FORMATS; format++) taken(by_library, messages, count, format);
+    for (int k = 0; k < WAYS; k++)
+      for (int format = 0; format < FORMATS; format++) ways[k].loops[format](messages, count);
     return 0;
   }
-  unsigned long rows = compared(messages, count);
-  static double least[FORMATS][WAYS];
+  printf("compared %lu\n", compared(messages, count));
+  static double least[FORMATS][MOST_WAYS];
   for (int round = 0; round < rounds; round++)
     for (int format = 0; format < FORMATS; format++)
-      for (int way = 0; way < WAYS; way++) {
-        double found = taken(WAYS_OF[way], messages, count, format);
-        if (!round || found < least[format][way]) least[format][way] = found;
+      for (int k = 0; k < WAYS; k++) {
+        double found = taken(ways[k].loops[format], messages, count);
+        if (!round || found < least[format][k]) least[format][k] = found;
       }
-  printf("compared %lu\n", rows);
   for (int format = 0; format < FORMATS; format++) {
     printf("%s", NAMES[format]);
-    for (int way = 0; way < WAYS; way++) printf(" %.2f", least[format][way] / (count / 4));
+    for (int k = 0; k < WAYS; k++) printf(" %.3f", least[format][k] / (count / FORMATS));
     printf("\n");
   }
   return 0;

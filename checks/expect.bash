@@ -7,7 +7,10 @@ unproved="An unproved script: docs/tools.md says what it shows."
 begin() {
     check=$1
     export TD=$PWD/crates/td/out/td
-    [ -x "$TD" ] || { echo "$check: $TD isn't built"; exit 1; }
+    export TDC=$PWD/crates/tdc/out/tdc
+    for program in "$TD" "$TDC"; do
+        [ -x "$program" ] || { echo "$check: $program isn't built"; exit 1; }
+    done
     passed=0
     failed=0
     # shellcheck disable=SC2034

@@ -100,13 +100,14 @@ def program() -> str:
     return os.environ.get("TD") or os.path.join(TOP, "td")
 
 
-def started(name: str, words: Sequence[str], text: bytes, **outputs: Any) -> Ended:
-    """Runs the program. It may end before it took its input, and that doesn't end the script."""
+def started(name: str, words: Sequence[str], text: bytes, by: str | None = None, **outputs: Any) -> Ended:
+    """Runs the program, or another one that is named. It may end before it took its input, and that doesn't end the script."""
+    path = by or program()
     before = signal.signal(signal.SIGPIPE, signal.SIG_IGN)
     try:
-        return subprocess.run([program(), *words], input=text, check=False, **outputs)
+        return subprocess.run([path, *words], input=text, check=False, **outputs)
     except OSError:
-        raise Wrong("%s: can't start the program '%s'" % (name, program()), 127) from None
+        raise Wrong("%s: can't start the program '%s'" % (name, path), 127) from None
     finally:
         signal.signal(signal.SIGPIPE, before)
 

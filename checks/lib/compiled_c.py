@@ -1,4 +1,4 @@
-"""The C that td-c writes, compiled and called: each load of a word goes through a function that keeps it, and that stores as other
+"""Written C (of tdc, and of tools/image_to_c), compiled and called: each load of a word goes through a function that keeps it, and that stores as other
 threads would."""
 
 import ctypes
@@ -9,7 +9,7 @@ import subprocess
 from codes import NO_FIELD
 from program import TOP
 
-# td-c promises that these compilers say nothing with these flags; the last ones it keeps without a promise.
+# These compilers say nothing with these flags.
 COMPILERS = ("cc", "gcc", "clang")
 FLAGS = ["-std=c11", "-Wall", "-Wextra", "-Werror", "-Wpedantic", "-Wshadow", "-Wconversion"]
 # What C leaves undefined ends the check.
@@ -81,12 +81,12 @@ def compilers():
     return list(found.values()), missing
 
 
-def td_c(folder, name, image):
-    """Writes an image as NAME.c and NAME.h of a folder; what td-c complains of, or an empty text."""
+def image_to_c(folder, name, image):
+    """Writes an image as NAME.c and NAME.h of a folder; what the script complains of, or an empty text."""
     path = os.path.join(folder, name + ".image")
     with open(path, "wb") as file:
         file.write(image)
-    ended = subprocess.run([os.path.join(TOP, "td-c"), path, os.path.join(folder, name)], capture_output=True, check=False)
+    ended = subprocess.run([os.path.join(TOP, "tools/image_to_c"), path, os.path.join(folder, name)], capture_output=True, check=False)
     return "" if ended.returncode == 0 and not ended.stdout else "status %d: %s" % (ended.returncode, ended.stderr.decode())
 
 

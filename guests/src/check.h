@@ -1,5 +1,5 @@
 /* All that the device reads of what a guest says is behind five calls. Each looks at one message in the guest's memory and
-   delivers what was tested. The calls have several bodies: by the proved library (check_library.c), by the C that td-c writes
+   delivers what was tested. The calls have several bodies: by the proved library (check_library.c), by the C that tools/image_to_c writes
    (check_td_c.c), and by hand (check_hand.c): tested and read once, not tested, and tested and read again. */
 #ifndef CHECK_H
 #define CHECK_H

@@ -1,4 +1,4 @@
-/* By the C that td-c writes of the format. A message begins at any byte, and is in one piece: one in several is gathered first,
+/* By the C that tools/image_to_c writes of the format. A message begins at any byte, and is in one piece: one in several is gathered first,
    each byte loaded once, and validated in memory of our own. WRONG builds answer something else than what was loaded: for
    trying whether the second reading sees it. */
 #include "check.h"

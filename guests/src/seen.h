@@ -1,4 +1,4 @@
-/* What was loaded of a message (td-c's C: by TD_LOAD; the library: by td_validate_parts_loads), and a second reading of the
+/* What was loaded of a message (image_to_c's C: by TD_LOAD; the library: by td_validate_parts_loads), and a second reading of the
    message from these loads alone, by hand: verdict and values have to be those that the validator gave. A WATCH build stops if
    they aren't, if a word is loaded twice, and if a word is loaded that has no byte of the message. */
 #ifndef SEEN_H

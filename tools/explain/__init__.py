@@ -13,7 +13,7 @@ OTHERS = {
     "error read": "Standard input couldn't be read: it is a folder, it is closed, or its device fails.",
     "error memory": "The program was out of memory, and wrote nothing but this line. The same input gives its answer where there is enough.",
     "usage: ": "The words after the program's name are no command, and nothing was read. `td check`, `tidy`, `code`, `pack`, `run` and"
-    " `host` take no word more; `td bench N` takes a number from 1 to 10,000.",
+    " `host` take no word more; `td bench N` takes a number from 1 to 10,000. `tdc` takes `c NAME`, `header NAME` or `parts NAME`.",
 }
 BY_CODE = {
     "L": tokens.help_of,

@@ -1,4 +1,4 @@
-"""Help on J1 to J10, Z1 to Z3: jobs, and inputs as a whole. With the job itself it says what stands there."""
+"""Help on J1 to J10, Z1 to Z5: jobs, and inputs as a whole. With the job itself it says what stands there."""
 
 import difflib
 import json
@@ -370,7 +370,17 @@ def not_written(job, place):
     return lines + ["mend: " + mend]
 
 
+# Of tdc's own lines: what is wrong, and what is to be written.
+OF_TDC = {
+    "Z4": ("The name that was given to `tdc` can't begin names of C.", "write a letter, then letters, digits and `_`: `tdc c point`."),
+    "Z5": ("The module has no entry point, so its C would have no function to call.", "write `entrypoint` before the type that a message has."),
+}
+
+
 def input_as_a_whole(code, text):
+    if code in OF_TDC:
+        said, mend = OF_TDC[code]
+        return [said, "mend: " + mend]
     if code == "Z1":
         said = "An input has at most %s bytes, the module, the line `%%%%` and the job together; the module alone has %d."
         return [said % (grouped(MOST_INPUT), len(text)),
@@ -403,7 +413,7 @@ BY_CODE = {"J2": field_wrong, "J4": wrong_values, "J5": no_digits, "J6": no_word
 
 
 def help_of(text, code, path, job_text):
-    if code in ("Z1", "Z2", "Z3"):
+    if code in ("Z1", "Z2", "Z3", *OF_TDC):
         return input_as_a_whole(code, text)
     if code not in PATHS or not re.fullmatch(PATHS[code], path, re.DOTALL):
         return []

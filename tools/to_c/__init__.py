@@ -1,1 +1,1 @@
-"""How td-c writes an image of code as C: names, routines, entry points. docs/c.md is the page for its users."""
+"""How tools/image_to_c writes an image of code as C: names, routines, entry points."""

@@ -7,11 +7,11 @@ from .routines import called_of
 
 # What is said at the top of both files. The lines after it differ.
 ORIGIN = """\
-/* Made by td-c from an image of code: {size} bytes, SHA-256 {digest}.
+/* Made by image_to_c from an image of code: {size} bytes, SHA-256 {digest}.
  * Make it anew in place of editing it.
  *
  * THIS C ISN'T PROVED. The image is: the verifier accepts it, and where `td pack` wrote it, its code is proved to do what the 3D
- * text means. That this C does what the code does rests on the script td-c, on tests that compare the two (checks/c), and on your
+ * text means. That this C does what the code does rests on the script tools/image_to_c, on tests that compare the two (checks/image_c), and on your
  * compiler. The proved way is to link the library and let its machine run the image.
  */
 """

@@ -1,8 +1,6 @@
 -- The fields of a case are formed and safe as its list says. Cited by other crates.
 use Rattle.std.proofs.Common.{◌≡◌, ℕ, Bool, true, false, cond, List, [], ◌∷◌, Option, Some, None, nat_eq}
-use Rattle.td_core.specs.declared.module.Field.{Field}
-use Rattle.td_core.specs.declared.module.Case.{Case}
-use Rattle.td_core.specs.declared.module.TypeDef.{TypeDef}
+use Rattle.td_arith.specs.Imports.{Field, Case, TypeDef}
 use Rattle.td_core.specs.Formed.{Bound, AreCasesFormed, IsDefaultFormed}
 use Rattle.td_core.specs.WellFormed.{OfSome}
 use Rattle.td_expr.specs.Facts.{Fact}

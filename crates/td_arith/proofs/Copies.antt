@@ -5,16 +5,9 @@ use Rattle.std.proofs.lemmas.Bool.{ltb-false, false≢true}
 use Rattle.std.proofs.lemmas.Option.{none-some, same_Some}
 use Rattle.td_num.specs.Lists.{Each}
 use Rattle.td_num.proofs.Lists.{each_at}
-use Rattle.td_core.specs.declared.expressions.Scalar.TheVariants.{ThirtyTwo}
-use Rattle.td_core.specs.declared.expressions.Binary.TheVariants.{Minus}
+use Rattle.td_arith.specs.Imports.{ThirtyTwo, Subtract, CopyOut, Field, Case, Body, Struct, Casetype, TypeDef}
 use Rattle.td_core.specs.declared.module.Cell.{Cell}
 use Rattle.td_core.specs.declared.module.Buffer.{Buffer}
-use Rattle.td_core.specs.declared.module.CopyOut.{CopyOut}
-use Rattle.td_core.specs.declared.module.Field.{Field}
-use Rattle.td_core.specs.declared.module.Case.{Case}
-use Rattle.td_core.specs.declared.module.Body.{Body}
-use Rattle.td_core.specs.declared.module.Body.TheVariants.{Struct, Casetype}
-use Rattle.td_core.specs.declared.module.TypeDef.{TypeDef}
 use Rattle.td_core.specs.Term.{Term, number}
 use Rattle.td_core.specs.Types.{limit, type_of}
 use Rattle.td_core.specs.WellFormed.{OfSome, EachField}
@@ -51,8 +44,8 @@ within_room scope facts env size room s i u e =
 pub spare_sound : (c : CopyOut) (size : Term) (env : List ℕ) → c.room < limit ThirtyTwo → Sound size env → natural_of size env ≤ c.room → Sound (spare c size) env
 spare_sound c size env low g le =
     let y = natural (value_of size env) in (
-      computed_in_type Minus (number c.room ThirtyTwo) size env c.room y refl (as_number (type_of size) (value_of size env) (in_type size env g))
-          (computed_fits Minus ThirtyTwo (type_of size) c.room y low (below_limit (type_of size) (value_of size env) (in_type size env g)) le),
+      computed_in_type Subtract (number c.room ThirtyTwo) size env c.room y refl (as_number (type_of size) (value_of size env) (in_type size env g))
+          (computed_fits Subtract ThirtyTwo (type_of size) c.room y low (below_limit (type_of size) (value_of size env) (in_type size env g)) le),
       ((low, tt), g),
     )
 

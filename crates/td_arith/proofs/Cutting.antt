@@ -3,7 +3,7 @@ use Rattle.std.proofs.Common.{◌≡◌, ℕ, ◌<◌, ◌+◌, length, get_or, 
 use Rattle.std.proofs.Math.Seq.{take-append_seam}
 use Rattle.td_core.specs.Term.{Term}
 use Rattle.td_expr.specs.Facts.{Fact}
-use Rattle.td_core.specs.declared.expressions.Relation.{Relation}
+use Rattle.td_arith.specs.Imports.{Relation}
 use Rattle.td_expr.specs.Range.{Range, cut_by, cut_by_all, cut_where}
 use Rattle.td_arith.specs.declared.comparisons.Known.{Known}
 use Rattle.td_arith.specs.Known.{fact_in, facts_in, IsLearned}

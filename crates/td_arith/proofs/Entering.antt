@@ -2,9 +2,7 @@
 use Rattle.std.proofs.Common.{◌≡◌, ℕ, ◌<◌, ◌^◌, List, length, Option, Some, None, subst}
 use Rattle.td_num.specs.Lists.{AreBytes}
 use Rattle.td_num.proofs.Lists.{got, each_at}
-use Rattle.td_core.specs.declared.module.Module.{Module}
-use Rattle.td_core.specs.declared.module.TypeDef.{TypeDef}
-use Rattle.td_core.specs.declared.module.Entry.{Entry}
+use Rattle.td_arith.specs.Imports.{Module, TypeDef, Entry}
 use Rattle.td_core.specs.Entries.{entry_definition}
 use Rattle.td_core.specs.Formed.{AllFit, IsModuleFormed, params_at, cells_at}
 use Rattle.td_core.specs.Copies.{IsCopying}

@@ -3,15 +3,13 @@
 use Rattle.std.proofs.Common.{◌≡◌, ℕ, zero, suc, ◌+◌, ◌*◌, ◌<◌, List, [], ◌∷◌, ◌++◌, length, refl, sym, subst, arith, Some, None, slice_get, length-append, append_assoc}
 use Rattle.std.proofs.lemmas.Option.{none-some, same_Some, slice_get_within}
 use Rattle.td_num.specs.Numbers.{places_from}
-use Rattle.td_core.specs.declared.module.TypeDef.{TypeDef}
-use Rattle.td_core.specs.declared.module.Module.{Module}
+use Rattle.td_arith.specs.Imports.{TypeDef, Module, Entry}
 use Rattle.td_expr.specs.Sound.{Sound}
 use Rattle.td_expr.proofs.Admitting.{neither}
 use Rattle.td_arith.specs.SafeModule.{definition_unsafe, definitions_unsafe}
 use Rattle.td_core.specs.Formed.{Bound, AllFit, params_at, cells_at, cell_bounds, buffer_bounds, own_at}
 use Rattle.td_meaning.specs.Meaning.{entry_place}
 use Rattle.td_meaning.specs.Throughout.{through_below}
-use Rattle.td_core.specs.declared.module.Entry.{Entry}
 use Rattle.td_core.specs.Entries.{entry_definition}
 use Rattle.td_core.proofs.Found.{entry_found}
 use Rattle.td_num.proofs.Lists.{each_at}

@@ -1,11 +1,7 @@
 -- The first of what was found and what is left.
 use Rattle.std.proofs.Common.{◌≡◌, ℕ, ◌+◌, ◌<◌, List, length, get_or, drop, refl, sym, ap, ◌∙◌, Option, Some, None}
 use Rattle.td_core.specs.Term.{Term}
-use Rattle.td_core.specs.declared.module.Part.{Part}
-use Rattle.td_core.specs.declared.module.Field.{Field}
-use Rattle.td_core.specs.declared.module.Case.{Case}
-use Rattle.td_core.specs.declared.module.TypeDef.{TypeDef}
-use Rattle.td_expr.specs.declared.safety.Unsafe.{Unsafe}
+use Rattle.td_arith.specs.Imports.{Part, Field, Case, TypeDef, Unsafe}
 use Rattle.td_expr.specs.Facts.{Fact}
 use Rattle.td_expr.specs.Safe.{first, first_unsafe}
 use Rattle.td_arith.specs.SafeModule.{known_after, list_unsafe, part_unsafe, parts_unsafe, known_after_parts, field_unsafe, fields_unsafe, cases_unsafe, definition_unsafe, definitions_unsafe}

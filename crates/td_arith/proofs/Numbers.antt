@@ -7,13 +7,8 @@ use Rattle.td_num.specs.Numbers.{bytes_in, falling_on, ordered_at, number_at}
 use Rattle.td_num.specs.declared.number.Width.{Width}
 use Rattle.td_num.specs.declared.number.ByteOrder.{ByteOrder}
 use Rattle.td_num.specs.declared.number.ByteOrder.TheVariants.{LittleEndian, BigEndian}
-use Rattle.td_num.specs.declared.number.NumberType.{NumberType}
+use Rattle.td_arith.specs.Imports.{NumberType, Element, Number, Listed, Named, Unit as UnitElement, Rest, Zeros, Extent, Once, Filling, OnceFilling, UpToZero, Bits}
 use Rattle.td_num.specs.Lists.{AreBytes}
-use Rattle.td_core.specs.declared.module.Element.{Element}
-use Rattle.td_core.specs.declared.module.Element.TheVariants.{Number, Listed, Named, Unit as UnitElement, Rest, Zeros}
-use Rattle.td_core.specs.declared.module.Extent.{Extent}
-use Rattle.td_core.specs.declared.module.Extent.TheVariants.{Once, Filling, OnceFilling, UpToZero}
-use Rattle.td_core.specs.declared.module.Bits.{Bits}
 use Rattle.td_core.specs.Types.{limit}
 use Rattle.td_core.specs.Formed.{scalar_of, bits_bound, part_bound}
 use Rattle.td_meaning.specs.Meaning.{bits_of, field_number}

@@ -3,12 +3,7 @@
 use Rattle.std.proofs.Common.{◌≡◌, ℕ, ◌^◌, ◌<◌, ◌≤◌, true, List, [], ◌∷◌, ◌++◌, refl, ◌∙◌, arith, Option, Some, None}
 use Rattle.td_core.specs.Term.{Term, Deed}
 use Rattle.td_core.specs.declared.expressions.Scalar.TheVariants as scalar
-use Rattle.td_core.specs.declared.module.NameId.{NameId}
-use Rattle.td_core.specs.declared.module.Bits.{Bits}
-use Rattle.td_core.specs.declared.module.Part.{Part}
-use Rattle.td_core.specs.declared.module.Element.{Element}
-use Rattle.td_core.specs.declared.module.Extent.{Extent}
-use Rattle.td_core.specs.declared.outcome.Reason.TheVariants.{Constraint, Action as ActionFails}
+use Rattle.td_arith.specs.Imports.{NameId, Bits, Part, Element, Extent, Constraint, Action as ActionFails}
 use Rattle.td_core.specs.Outcome.{within}
 use Rattle.td_expr.specs.Facts.{Fact, facts_of}
 use Rattle.td_expr.specs.Sound.{Sound}

@@ -1,24 +1,16 @@
 -- Cited by other crates.
 -- Each expression that a field's shape evaluates is sound, and a field ends before the end.
 use Rattle.std.specs.Prelude.{int_lt, pos}
-use Rattle.td_expr.specs.declared.safety.Unsafe.TheVariants.{Room}
+use Rattle.td_arith.specs.Imports.{Room, NumberType, Element, Number, Listed, Named, Unit as UnitElement, Rest, Zeros, Extent, Once, Filling, OnceFilling, UpToZero, CopyOut, TypeDef, Constraint, ListSize}
 use Rattle.td_expr.specs.Range.{range_of}
 use Rattle.std.proofs.Common.{◌≡◌, ℕ, zero, suc, ◌+◌, ◌-◌, ◌/◌, ◌^◌, ◌<◌, ◌≤◌, Bool, true, false, cond, min, List, [], ◌∷◌, map, refl, sym, subst, arith, Option, Some, None, slice_get, slice_index, nat_eq}
 use Rattle.std.proofs.lemmas.Option.{none-some}
 use Rattle.std.proofs.Math.Nat.{div-mul-le_self, mul-le-mul_right}
 use Rattle.td_num.specs.Numbers.{bytes_in, number_at, places_from}
-use Rattle.td_num.specs.declared.number.NumberType.{NumberType}
 use Rattle.td_num.specs.Lists.{is_among, first_where}
 use Rattle.td_num.proofs.Lists.{found_below}
 use Rattle.td_core.specs.Term.{Term}
-use Rattle.td_core.specs.declared.module.Element.{Element}
-use Rattle.td_core.specs.declared.module.Element.TheVariants.{Number, Listed, Named, Unit as UnitElement, Rest, Zeros}
-use Rattle.td_core.specs.declared.module.Extent.{Extent}
-use Rattle.td_core.specs.declared.module.Extent.TheVariants.{Once, Filling, OnceFilling, UpToZero}
-use Rattle.td_core.specs.declared.module.CopyOut.{CopyOut}
-use Rattle.td_core.specs.declared.module.TypeDef.{TypeDef}
 use Rattle.td_core.specs.WellFormed.{OfSome}
-use Rattle.td_core.specs.declared.outcome.Reason.TheVariants.{Constraint, ListSize}
 use Rattle.td_core.specs.Outcome.{Behavior, accepted, and_then, after_reading}
 use Rattle.td_expr.specs.Facts.{Fact}
 use Rattle.td_expr.specs.Safe.{first_unsafe}

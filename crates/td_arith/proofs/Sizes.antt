@@ -7,23 +7,11 @@ use Rattle.td_num.specs.Numbers.{bytes_in, number_at, places_from}
 use Rattle.td_num.specs.Lists.{is_among, first_where}
 use Rattle.td_num.proofs.Lists.{found_below}
 use Rattle.td_core.specs.Term.{Term}
-use Rattle.td_core.specs.declared.module.NameId.{NameId}
-use Rattle.td_core.specs.declared.module.Element.{Element}
-use Rattle.td_core.specs.declared.module.Element.TheVariants.{Number, Listed, Named, Unit as UnitElement, Rest, Zeros}
-use Rattle.td_core.specs.declared.module.Extent.{Extent}
-use Rattle.td_core.specs.declared.module.Extent.TheVariants.{Once, Filling, OnceFilling, UpToZero}
-use Rattle.td_core.specs.declared.module.CopyOut.{CopyOut}
-use Rattle.td_core.specs.declared.module.Field.{Field}
-use Rattle.td_core.specs.declared.module.Case.{Case}
-use Rattle.td_core.specs.declared.module.Body.{Body}
-use Rattle.td_core.specs.declared.module.Body.TheVariants.{Struct, Casetype}
-use Rattle.td_core.specs.declared.module.TypeDef.{TypeDef}
-use Rattle.td_core.specs.declared.outcome.Reason.TheVariants.{NotEnough, Constraint, ListSize}
+use Rattle.td_arith.specs.Imports.{NameId, Element, Number, Listed, Named, Unit as UnitElement, Rest, Zeros, Extent, Once, Filling, OnceFilling, UpToZero, CopyOut, Field, Case, Body, Struct, Casetype, TypeDef, NotEnough, Constraint, ListSize, Kind}
 use Rattle.td_core.specs.Outcome.{Behavior, accepted, and_then, within, after_reading}
 use Rattle.td_expr.specs.Value.{natural}
 use Rattle.td_expr.specs.Same.{constant_of}
 use Rattle.td_expr.proofs.Folding.{constant_is}
-use Rattle.td_core.specs.declared.kind.Kind.{Kind}
 use Rattle.td_kinds.specs.Kinds.{up_to, exactly, at_least, on_both, joined, element_kind, sized_kind, field_kind, fields_kind, default_kind, spanned_with, cases_kind, body_kind, definition_kind, kinds_below, pick_kind}
 use Rattle.td_meaning.specs.Doing.{natural_of}
 use Rattle.td_meaning.specs.Naming.{is_needed}

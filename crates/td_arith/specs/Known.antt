@@ -1,6 +1,6 @@
 -- What is known to be true, as a list of facts.
 use Rattle.std.specs.Prelude.{◌≡◌, Bool, List, [], ◌∷◌, ◌++◌}
-use Rattle.td_core.specs.declared.expressions.Relation.{Relation}
+use Rattle.td_arith.specs.Imports.{Relation}
 use Rattle.td_expr.specs.Facts.{Fact, fact}
 use Rattle.td_expr.specs.Safe.{says_up_to, says_not_zero, says_sum}
 use Rattle.td_arith.specs.declared.comparisons.Side.{Side}

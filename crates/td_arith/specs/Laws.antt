@@ -1,9 +1,7 @@
 -- Laws of the meaning.
 use Rattle.std.specs.Prelude.{◌≡◌, ℕ, ◌^◌, ◌<◌, List, length, None, Some, slice_get}
 use Rattle.td_num.specs.Lists.{AreBytes}
-use Rattle.td_core.specs.declared.module.Module.{Module}
-use Rattle.td_core.specs.declared.module.Entry.{Entry}
-use Rattle.td_core.specs.declared.module.TypeDef.{TypeDef}
+use Rattle.td_arith.specs.Imports.{Module, Entry, TypeDef}
 use Rattle.td_arith.specs.SafeModule.{module_unsafe}
 use Rattle.td_core.specs.Formed.{AllFit, IsModuleFormed, params_at, cells_at}
 use Rattle.td_core.specs.Copies.{IsCopying}

@@ -1,3 +1,4 @@
+pub mod Imports
 pub mod SafeModule
 pub mod Sides
 pub mod Sizes

@@ -1,8 +1,7 @@
 -- What memory is taken for where the arithmetic of a definition is looked at, beside its `where`.
 use Rattle.std.specs.Prelude.{◌≢◌, ◌<◌, ◌⊎◌, length, None}
 use Rattle.td_core.specs.Copying.{HasOperands}
-use Rattle.td_core.specs.declared.module.Body.{Body}
-use Rattle.td_core.specs.declared.module.Body.TheVariants.{Struct, Casetype}
+use Rattle.td_arith.specs.Imports.{Body, Struct, Casetype}
 
 -- a field; a switch with operands, a case or a `default`
 abbrev pub HasInside : Body → Type 0

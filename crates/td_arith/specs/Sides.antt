@@ -1,5 +1,5 @@
 -- The sides of a comparison that is known.
-use Rattle.td_core.specs.declared.expressions.Binary.TheVariants.{Minus}
+use Rattle.td_arith.specs.Imports.{Subtract}
 use Rattle.td_core.specs.Term.{Term, compute}
 use Rattle.td_expr.specs.Facts.{no_span}
 use Rattle.td_arith.specs.declared.comparisons.Side.{Side}
@@ -7,4 +7,4 @@ use Rattle.td_arith.specs.declared.comparisons.Side.TheVariants.{Whole, Differen
 
 abbrev pub side_of : Side → Term
 side_of (Whole e) = e.now
-side_of (Difference a b) = compute Minus no_span a.now b.now
+side_of (Difference a b) = compute Subtract no_span a.now b.now

@@ -1,9 +1,7 @@
 -- Where a type accepts, it takes as many bytes as its kind says (own rule).
 use Rattle.std.specs.Prelude.{ℕ, ◌+◌, ◌≤◌, List, length, Option, Some, None}
-use Rattle.td_core.specs.declared.module.Module.{Module}
-use Rattle.td_core.specs.declared.kind.Kind.{Kind}
+use Rattle.td_arith.specs.Imports.{Module, Kind, Element}
 use Rattle.td_kinds.specs.KindRules.{kinds_of}
-use Rattle.td_core.specs.declared.module.Element.{Element}
 use Rattle.td_kinds.specs.Kinds.{element_kind}
 use Rattle.td_meaning.specs.Meaning.{below, element_meaning}
 use Rattle.td_meaning.specs.Cuts.{MovesOn}

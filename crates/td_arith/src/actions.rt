@@ -18,7 +18,7 @@ use td_expr::safety::Unsafe;
 /// The first operator of a field's action that isn't safe where conditions are known to hold. On `Ok` the list of them is
 /// as before. `AllocError`: it has a statement that others may follow, or returns an expression with operands, and there
 /// was no memory to look at it.
-pub fn action_unsafe<'a>(
+pub(crate) fn action_unsafe<'a>(
     alloc: Global,
     action: &'a Option<Action>,
     known: &mut Vec<Known<'a>>,

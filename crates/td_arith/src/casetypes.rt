@@ -18,7 +18,10 @@ use td_num::items::Items;
 
 /// The first operator of a struct or a casetype that isn't safe. `AllocError`: it has a `where`, a field, a switch with
 /// operands, a case or a `default`, and there was no memory to look at it.
-pub fn definition_unsafe(alloc: Global, definition: &TypeDef) -> Result<Option<Unsafe>, AllocError>
+pub(crate) fn definition_unsafe(
+    alloc: Global,
+    definition: &TypeDef,
+) -> Result<Option<Unsafe>, AllocError>
     ensures first { IfOk result (λ u. u ≡ definition_unsafe definition.now) }
     ensures memory { OnErr result ((definition.now.guard ≢ None) ⊎ HasInside definition.now.body) }
 {

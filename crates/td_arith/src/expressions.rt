@@ -4,7 +4,7 @@ ghost use Rattle.std.specs.Prelude.{◌≡◌, ◌||◌, ◌+ℤ◌, ◌*ℤ◌,
 ghost use Rattle.td_core.specs.Types.{limit, bits, type_of, wider};
 ghost use Rattle.td_expr.specs.Facts.{some_fact};
 ghost use Rattle.td_expr.specs.Value.{flip};
-ghost use Rattle.td_expr.specs.declared.safety.Unsafe.TheVariants.{Operator};
+ghost use Rattle.td_arith.specs.Imports.{Operator};
 ghost use Rattle.td_expr.specs.Range.{narrowed, whole, computed_range, range_of};
 ghost use Rattle.td_expr.specs.Safe.{is_safe, is_below, first, unless_safe, says_sum, says_up_to, says_not_zero};
 ghost use Rattle.td_arith_ranges.specs.Ends.{range_in, spanned};
@@ -119,10 +119,10 @@ pub(crate) fn is_safe(
     ensures { IfOk result (λ s. s ≡ is_safe (facts_in known.now) op a.now b.now) }
 {
     match op {
-        Binary::Plus => is_safe_sum(alloc, known, a, b, &left.high, &right.high),
-        Binary::Minus => is_safe_difference(alloc, known, a, b, &left.low, &right.high),
-        Binary::Times => is_safe_product(alloc, a, b, &left.high, &right.high),
-        Binary::Over | Binary::Modulo => is_safe_quotient(alloc, known, b, &right.low),
+        Binary::Add => is_safe_sum(alloc, known, a, b, &left.high, &right.high),
+        Binary::Subtract => is_safe_difference(alloc, known, a, b, &left.low, &right.high),
+        Binary::Multiply => is_safe_product(alloc, a, b, &left.high, &right.high),
+        Binary::Divide | Binary::Remainder => is_safe_quotient(alloc, known, b, &right.low),
         Binary::BitAnd | Binary::BitOr | Binary::BitXor => Ok(true),
         Binary::ShiftLeft | Binary::ShiftRight => is_amount(alloc, &right.high, type_of(a)),
     }

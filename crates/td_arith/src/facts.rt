@@ -1,7 +1,7 @@
 //! What is known where an expression stands.
 
 ghost use Rattle.std.specs.Prelude.{◌≡◌, ◌&&◌, ◌<◌, length, IfOk, OnErr};
-ghost use Rattle.td_core.specs.declared.expressions.Binary.TheVariants.{Minus};
+ghost use Rattle.td_arith.specs.Imports.{Subtract};
 ghost use Rattle.td_core.specs.Term.{compute};
 ghost use Rattle.td_expr.specs.Same.{same};
 ghost use Rattle.td_expr.specs.Facts.{no_span, some_fact};
@@ -102,7 +102,7 @@ fn cut_by_side(
 }
 
 /// Whether something that is known answers a question.
-pub fn some_known(question: Question, known: &[Known]) -> bool
+pub(crate) fn some_known(question: Question, known: &[Known]) -> bool
     ensures { result ≡ some_fact (asks question.entry) (facts_in known.now) }
 {
     for k in known {
@@ -163,7 +163,7 @@ fn is_bound(w: Scalar, a: &CoreExpr, b: &CoreExpr, left: Side, right: Side) -> b
 {
     match right {
         Side::Whole(e) => match &e.node {
-            Node::Compute(Binary::Minus, _, c, d) => bounds(w, a, b, left, c, d),
+            Node::Compute(Binary::Subtract, _, c, d) => bounds(w, a, b, left, c, d),
             _ => false,
         },
         Side::Difference(c, d) => bounds(w, a, b, left, c, d),
@@ -172,7 +172,7 @@ fn is_bound(w: Scalar, a: &CoreExpr, b: &CoreExpr, left: Side, right: Side) -> b
 
 /// Whether one of the two is at most a number of this width less the other.
 fn bounds(w: Scalar, a: &CoreExpr, b: &CoreExpr, left: Side, c: &CoreExpr, d: &CoreExpr) -> bool
-    ensures { result ≡ bounds_sum w a.now b.now (side_of left.entry) (compute Minus no_span c.now d.now) }
+    ensures { result ≡ bounds_sum w a.now b.now (side_of left.entry) (compute Subtract no_span c.now d.now) }
 {
     bits_of(type_of(c)) <= bits_of(w)
         && ((is_side(left, a) && is_same(d, b)) || (is_side(left, b) && is_same(d, a)))

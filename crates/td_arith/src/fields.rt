@@ -17,7 +17,7 @@ use td_expr::safety::Unsafe;
 
 /// The first operator of a test that isn't safe, where there is a test. On `Ok` what is known is as before. `AllocError`:
 /// there is a test with operands, and there was no memory to look at them.
-pub fn test_unsafe<'a>(
+pub(crate) fn test_unsafe<'a>(
     alloc: Global,
     test: &'a Option<CoreExpr>,
     known: &mut Vec<Known<'a>>,
@@ -45,7 +45,7 @@ pub fn learn<'a>(test: &'a Option<CoreExpr>, known: &mut Vec<Known<'a>>) -> Resu
 
 /// The first operator of fields that isn't safe where conditions are known to hold. What is known afterwards is of no further
 /// use. `AllocError`: there is a field, and there was no memory to look.
-pub fn fields_unsafe<'a>(
+pub(crate) fn fields_unsafe<'a>(
     alloc: Global,
     fields: &'a [Field],
     known: &mut Vec<Known<'a>>,

@@ -1,7 +1,7 @@
 //! What a condition tells that is true, or is false.
 
 ghost use Rattle.std.specs.Prelude.{◌≡◌, ◌++◌, OnOk};
-ghost use Rattle.td_core.specs.declared.expressions.Binary.TheVariants.{Minus};
+ghost use Rattle.td_arith.specs.Imports.{Subtract};
 ghost use Rattle.td_core.specs.declared.expressions.Relation.TheVariants.{LessEqual};
 ghost use Rattle.td_core.specs.Term.{compute};
 ghost use Rattle.td_expr.specs.Facts.{fact, facts_of, no_span};
@@ -15,7 +15,7 @@ use td_core::expressions::{CoreExpr, Node, Relation};
 /// Adds the comparisons that are conjuncts of a condition, which is true, or is false, behind what is known. `AllocError`: there
 /// was no memory for one of them.
 #[cycle(learning)]
-pub fn learn_condition<'a>(
+pub(crate) fn learn_condition<'a>(
     truth: bool,
     condition: &'a CoreExpr,
     known: &mut Vec<Known<'a>>,
@@ -73,7 +73,7 @@ fn learn_range<'a>(
     access: &'a CoreExpr,
     known: &mut Vec<Known<'a>>,
 ) -> Result<(), AllocError>
-    ensures { OnOk result (IsLearned (fact LessEqual access.now size.now ++ fact LessEqual offset.now (compute Minus no_span size.now access.now))
+    ensures { OnOk result (IsLearned (fact LessEqual access.now size.now ++ fact LessEqual offset.now (compute Subtract no_span size.now access.now))
         known.old.items known.new.items) }
 {
     learn_comparison(

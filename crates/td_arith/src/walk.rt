@@ -5,7 +5,7 @@ ghost use Rattle.std.specs.Prelude.{◌≡◌, ◌++◌, pos, int_lt, IfOk, OnOk
 ghost use Rattle.td_core.specs.Copying.{HasOperands};
 ghost use Rattle.td_core.specs.Types.{type_of};
 ghost use Rattle.td_expr.specs.Facts.{facts_of};
-ghost use Rattle.td_expr.specs.declared.safety.Unsafe.TheVariants.{Operator};
+ghost use Rattle.td_arith.specs.Imports.{Operator};
 ghost use Rattle.td_expr.specs.Range.{narrowed, computed_range, range_of};
 ghost use Rattle.td_expr.specs.Safe.{is_safe, first, first_unsafe, unless_safe};
 ghost use Rattle.td_arith_ranges.specs.Ends.{range_in, spanned};
@@ -43,7 +43,7 @@ struct Operands {
 /// The first operator of an expression that isn't safe where conditions are known to hold. On `Ok` the list of them is as
 /// before. `AllocError`: it has operands, and there was no memory to look at them.
 #[cycle(walk)]
-pub fn expression_unsafe<'a>(
+pub(crate) fn expression_unsafe<'a>(
     alloc: Global,
     e: &'a CoreExpr,
     known: &mut Vec<Known<'a>>,

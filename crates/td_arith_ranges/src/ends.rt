@@ -87,11 +87,11 @@ pub fn computed(
     ensures memory { OnErr result ((op ≢ Binary.BitOr) × ((op ≢ Binary.BitXor) × (op ≢ Binary.ShiftLeft))) }
 {
     match op {
-        Binary::Plus => sum(alloc, a, b),
-        Binary::Minus => difference(alloc, a, b),
-        Binary::Times => product(alloc, a, b),
-        Binary::Over | Binary::ShiftRight => up_to_high(alloc, a),
-        Binary::Modulo => remainder(alloc, a, b),
+        Binary::Add => sum(alloc, a, b),
+        Binary::Subtract => difference(alloc, a, b),
+        Binary::Multiply => product(alloc, a, b),
+        Binary::Divide | Binary::ShiftRight => up_to_high(alloc, a),
+        Binary::Remainder => remainder(alloc, a, b),
         Binary::BitAnd => common_bits(alloc, a, b),
         Binary::BitOr | Binary::BitXor | Binary::ShiftLeft => Ok(whole(scalar)),
     }

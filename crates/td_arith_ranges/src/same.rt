@@ -2,7 +2,7 @@
 
 ghost use Rattle.std.specs.Prelude.{◌≡◌, ◌&&◌, ◌⊎◌, true, false, Some, None};
 ghost use Rattle.std.specs.Option.{ForSome};
-ghost use Rattle.td_core.specs.declared.expressions.Binary.TheVariants.{Minus};
+ghost use Rattle.td_core.specs.declared.expressions.Binary.TheVariants.{Subtract};
 ghost use Rattle.td_core.specs.Term.{compute};
 ghost use Rattle.td_core.specs.Types.{type_of};
 ghost use Rattle.td_expr.specs.Facts.{no_span};
@@ -225,7 +225,7 @@ fn is_same_by_parts(a: &CoreExpr, b: &CoreExpr) -> bool
 
 /// The value of the difference of two expressions, where it is constant.
 pub fn constant_difference(a: &CoreExpr, b: &CoreExpr) -> Option<u64>
-    ensures { result ≡ constant_of (compute Minus no_span a.now b.now) }
+    ensures { result ≡ constant_of (compute Subtract no_span a.now b.now) }
 {
     match (constant_of(a), constant_of(b)) {
         (Some(x), Some(y)) => if y <= x && x - y <= greatest_of(wider_of(type_of(a), type_of(b))) {
@@ -239,7 +239,7 @@ pub fn constant_difference(a: &CoreExpr, b: &CoreExpr) -> Option<u64>
 
 /// Whether the difference of two expressions is the same as a third.
 pub fn is_same_difference(a: &CoreExpr, b: &CoreExpr, e: &CoreExpr) -> bool
-    ensures { result ≡ same (compute Minus no_span a.now b.now) e.now }
+    ensures { result ≡ same (compute Subtract no_span a.now b.now) e.now }
 {
     match &e.node {
         Node::Compute(op, _, c, d) => agree_difference(
@@ -247,7 +247,7 @@ pub fn is_same_difference(a: &CoreExpr, b: &CoreExpr, e: &CoreExpr) -> bool
             b,
             e,
             all_hold(
-                is_same_operator(Binary::Minus, *op),
+                is_same_operator(Binary::Subtract, *op),
                 is_same(a, c),
                 is_same(b, d),
             ),
@@ -305,7 +305,7 @@ fn all_hold(a: bool, b: bool, c: bool) -> bool
 /// Whether a difference and an expression are the same, where their parts are or aren't.
 #[tactic(auto, using(crate::proofs::Comparing::settled_apart))]
 fn agree_difference(a: &CoreExpr, b: &CoreExpr, e: &CoreExpr, parts: bool) -> bool
-    ensures { result ≡ alike (compute Minus no_span a.now b.now) e.now parts }
+    ensures { result ≡ alike (compute Subtract no_span a.now b.now) e.now parts }
 {
     match constant_difference(a, b) {
         Some(m) => match constant_of(e) {

@@ -92,20 +92,13 @@ IsPublishing a b number code = published_by a.publisher b.publisher number code 
 abbrev pub IsSeatOf : Publisher → Reader → Type 0
 IsSeatOf p r = (arc_value r.codes ≡ arc_value p.codes) × (r.seat ≡ new_seat (arc_value p.codes))
 
--- who publishes has the codes and the number as before, loaded nothing, and made one seat at most
-abbrev pub publishes_on : Option Publisher → Option Publisher → Type 0
-publishes_on None None = Unit {0}
-publishes_on None (Some q) = ⊥
-publishes_on (Some p) None = ⊥
-publishes_on (Some p) (Some q) = (arc_value q.codes ≡ arc_value p.codes) × (q.seat ≡ p.seat) × ((q.maker ≡ then_split p.maker) ⊎ (q.maker ≡ p.maker))
+-- who publishes has the codes and the number as before, loaded nothing, and made one seat more
+abbrev pub publishes_on : Publisher → Publisher → Type 0
+publishes_on p q = (arc_value q.codes ≡ arc_value p.codes) × (q.seat ≡ p.seat) × (q.maker ≡ then_split p.maker)
 
--- so does a slot, of which all else stays
-abbrev pub GoesOn : Slot → Slot → Type 0
-GoesOn a b = publishes_on a.publisher b.publisher × (b ≡ record a { publisher = b.publisher })
-
--- who publishes made one seat more
+-- so does who publishes in a slot, of which all else stays
 abbrev pub MakesSeat : Slot → Slot → Type 0
-MakesSeat a b = IsSomeAnd a.publisher (λ p. IsSomeAnd b.publisher (λ q. q.maker ≡ then_split p.maker))
+MakesSeat a b = IsSomeAnd a.publisher (λ p. IsSomeAnd b.publisher (publishes_on p)) × (b ≡ record a { publisher = b.publisher })
 
 -- the other slot holds such a seat, and nothing else
 abbrev pub HasSeat : Slot → Slot → Type 0

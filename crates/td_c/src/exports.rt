@@ -1,6 +1,6 @@
 //! What C calls to open, share and close a session, and to validate.
 
-ghost use Rattle.std.specs.Prelude.{◌≡◌, ◌⊎◌, ◌↔◌, [], IsTrue, IfOk, IfErr, pos, true, false};
+ghost use Rattle.std.specs.Prelude.{◌≡◌, ◌⊎◌, ◌↔◌, [], IsTrue, IsNone, IfOk, IfErr, OnErr, pos, true, false};
 ghost use Rattle.td_stream.specs.Layouts.{AreWithin};
 ghost use Rattle.td_c.specs.Kept.{HoldsImage, HoldsCopy, IsAnswered, IsAnsweredInParts, IsClosed, IsCopy, IsSharing};
 ghost use Rattle.td_c.specs.Asked as asked;
@@ -11,11 +11,42 @@ use crate::call::{TdCall, validate_within};
 use crate::handle::{Slot, TdSession};
 use crate::images::{TdFault, code_of};
 use crate::parts::{TdStretch, is_within, layout_of};
-use std::alloc::Global;
+use std::alloc::{AllocError, Global};
 use std::mem;
 use td_foreign::{TdLoad, TdWords};
 use td_session::session::Session;
 use td_stream::layout::Layout;
+
+/// A slot for a handle that has none yet; none for one that has its slot. Takes no memory for that.
+pub(crate) fn room_for(alloc: Global, full: bool) -> Result<Option<Box<Slot>>, AllocError>
+    ensures room { IfOk result (λ room. IsNone room ↔ (full ≡ true)) }
+    ensures memory { OnErr result (full ≡ false) }
+{
+    if full {
+        return Ok(None);
+    }
+    Ok(Some(Box::new(alloc, Slot::empty())?))
+}
+
+/// Puts something into a handle's slot, or into this one, where the handle has none.
+pub(crate) fn put_into(handle: &mut TdSession, room: Option<Box<Slot>>, content: Slot)
+    requires { IsNone room ↔ (handle.old.full ≡ true) }
+    ensures full { handle.new.full ≡ true }
+    ensures held { handle.new.value ≡ content }
+{
+    match room {
+        Some(held) => {
+            let slot = Box::leak(held);
+            *slot = content;
+            handle.put(slot);
+        }
+        None => {
+            let slot = handle.take();
+            *slot = content;
+            handle.put(slot);
+        }
+    }
+}
 
 /// Puts something into a handle's slot; a handle that has no slot yet gets one.
 pub(crate) fn put(alloc: Global, handle: &mut TdSession, full: bool, content: Slot) -> i32
@@ -26,16 +57,10 @@ pub(crate) fn put(alloc: Global, handle: &mut TdSession, full: bool, content: Sl
     // A handle that has its slot takes no memory.
     ensures memory { result ≡ pos 4 → full ≡ false }
 {
-    if full {
-        let slot = handle.take();
-        *slot = content;
-        handle.put(slot);
-        return DONE;
-    }
-    let Ok(held) = Box::new(alloc, content) else {
+    let Ok(room) = room_for(alloc, full) else {
         return NO_MEMORY;
     };
-    handle.put(Box::leak(held));
+    put_into(handle, room, content);
     DONE
 }
 

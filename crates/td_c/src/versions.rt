@@ -1,15 +1,14 @@
 //! What C calls to replace a code while others validate by it.
 
-ghost use Rattle.std.specs.Prelude.{◌≡◌, ◌⊎◌, ◌<◌, ◌≤◌, ◌↔◌, ◌++◌, ◌∷◌, [], pos, true, false, Some, IfOk, IfErr, OnOk, IsSomeAnd, length, slice_get};
+ghost use Rattle.std.specs.Prelude.{◌≡◌, ◌⊎◌, ◌<◌, ◌≤◌, ◌↔◌, ◌++◌, ◌∷◌, [], pos, true, false, Some, IfOk, IfErr, OnOk, IsNone, OnErr, IsSomeAnd, length, slice_get};
 ghost use Rattle.std.specs.Arc.{arc_value};
 ghost use Rattle.td_image.specs.Answer.{IsImage, MayRunOut};
 ghost use Rattle.td_c.specs.Images.{IsFault};
-ghost use Rattle.td_c.specs.Versions.{IsNew, IsAdding, IsBeginning, IsPublishing, IsSeating, IsLoading, IsVersioning, IsVersion, HasVersion, LacksVersion, HasSeat, GoesOn, MakesSeat, HasBegun, IsAddition, IsPublication, IsSeatOf};
+ghost use Rattle.td_c.specs.Versions.{IsNew, IsAdding, IsBeginning, IsPublishing, IsSeating, IsLoading, IsVersioning, IsVersion, HasVersion, LacksVersion, HasSeat, MakesSeat, publishes_on, HasBegun, IsAddition, IsPublication, IsSeatOf};
 ghost use Rattle.td_session.specs.Room.{IsFresh};
-ghost use Rattle.td_swap.specs.Seats.{then_split};
 
 use crate::answers::{CLOSED, DONE, MISSING, NO_MEMORY, TOO_MUCH};
-use crate::exports::put;
+use crate::exports::{put, put_into, room_for};
 use crate::handle::{Slot, TdSession};
 use crate::images::{TdFault, code_of};
 use std::alloc::Global;
@@ -183,28 +182,40 @@ pub extern "C" fn td_c_publish(handle: &mut TdSession, full: bool, number: &mut 
     code
 }
 
-fn split(publisher: &mut Publisher) -> Result<Reader, i32>
-    ensures codes { arc_value publisher.new.codes ≡ arc_value publisher.old.codes }
-    ensures kept { publisher.new.seat ≡ publisher.old.seat }
-    ensures unloaded { (publisher.new.maker ≡ then_split publisher.old.maker) ⊎ (publisher.new.maker ≡ publisher.old.maker) }
-    ensures made { OnOk result (publisher.new.maker ≡ then_split publisher.old.maker) }
-    ensures seat { IfOk result (IsSeatOf publisher.old) }
+// A seat by one who publishes, and a slot for a handle that has none yet. There is a slot before there is a seat, so no seat is made
+// and dropped.
+fn split(
+    alloc: Global,
+    publisher: &mut Publisher,
+    full: bool,
+) -> Result<(Reader, Option<Box<Slot>>), i32>
+    ensures made { OnOk result (publishes_on publisher.old publisher.new) }
+    ensures seat { IfOk result (λ r. IsSeatOf publisher.old r.0) }
+    ensures room { IfOk result (λ r. IsNone r.1 ↔ (full ≡ true)) }
     ensures code { IfErr result (λ code. code ≡ pos 4) }
+    ensures unmade { OnErr result (publisher.new ≡ publisher.old) }
 {
+    let Ok(room) = room_for(alloc, full) else {
+        return Err(NO_MEMORY);
+    };
     match publisher.split() {
-        Ok(reader) => Ok(reader),
-        Err(_) => Err(NO_MEMORY),
+        Ok(reader) => Ok((reader, room)),
+        Err(_) => {
+            drop(room);
+            Err(NO_MEMORY)
+        }
     }
 }
 
-fn split_in(slot: &mut Slot) -> Result<Reader, i32>
-    ensures kept { GoesOn slot.old slot.new }
+fn split_in(alloc: Global, slot: &mut Slot, full: bool) -> Result<(Reader, Option<Box<Slot>>), i32>
     ensures made { OnOk result (MakesSeat slot.old slot.new) }
-    ensures seat { IfOk result (λ r. IsSomeAnd slot.old.publisher (λ p. IsSeatOf p r)) }
+    ensures seat { IfOk result (λ r. IsSomeAnd slot.old.publisher (λ p. IsSeatOf p r.0)) }
+    ensures room { IfOk result (λ r. IsNone r.1 ↔ (full ≡ true)) }
     ensures code { IfErr result (λ code. IsSeating slot.old code × (code ≡ pos 0 → ⊥)) }
+    ensures unmade { OnErr result (slot.new ≡ slot.old) }
 {
     match &mut slot.publisher {
-        Some(publisher) => split(publisher),
+        Some(publisher) => split(alloc, publisher, full),
         None => Err(CLOSED),
     }
 }
@@ -222,20 +233,24 @@ pub extern "C" fn td_c_seat(
     requires other { other.old.full ≡ other_full }
     ensures closed { full ≡ false → (result ≡ pos 3) × (handle.new ≡ handle.old) }
     ensures answer { full ≡ true → IsSeating handle.old.value result }
-    ensures kept { full ≡ true → (handle.new.full ≡ true) × GoesOn handle.old.value handle.new.value }
-    ensures other { (result ≡ pos 0 → ⊥) → other.new ≡ other.old }
+    ensures kept { full ≡ true → handle.new.full ≡ true }
+    // Without an answer of 0 no seat was made.
+    ensures unmade { (result ≡ pos 0 → ⊥) → (handle.new.value ≡ handle.old.value) × (other.new ≡ other.old) }
     ensures seat { result ≡ pos 0 → (full ≡ true) × (other.new.full ≡ true) × HasSeat handle.old.value other.new.value }
-    // By the seat that makes others, just one was made.
+    // By the seat that makes others, just one was made; who publishes has all else as before, and so has the slot.
     ensures made { result ≡ pos 0 → MakesSeat handle.old.value handle.new.value }
 {
     if !full {
         return CLOSED;
     }
     let slot = handle.take();
-    let made = split_in(slot);
+    let made = split_in(alloc, slot, other_full);
     handle.put(slot);
     match made {
-        Ok(reader) => put(alloc, other, other_full, Slot::of_reader(reader)),
+        Ok((reader, room)) => {
+            put_into(other, room, Slot::of_reader(reader));
+            DONE
+        }
         Err(code) => code,
     }
 }

@@ -15,7 +15,7 @@ use Rattle.clap.specs.declared.parser.matches.ArgMatches.TheViews.{out-SubComman
 use Rattle.clap.specs.declared.error.kind.ErrorKind.TheVariants as kinds
 use Rattle.clap.proofs.OnLiterals.{clap_on_literals}
 use Rattle.td_c_command.specs.declared.command.CFile.{CFile}
-use Rattle.td_c_command.specs.declared.command.CFile.TheVariants.{Source, Header}
+use Rattle.td_c_command.specs.declared.command.CFile.TheVariants.{Source, Header, Parts}
 use Rattle.td_c_command.specs.declared.command.Command.{Command}
 use Rattle.td_c_command.specs.Command.{command_app, named_shape, word_of, Found, Fits, Is, IsThe, Means, MeansNone}
 
@@ -61,6 +61,10 @@ header : Means (codes "tdc" ∷ codes "header" ∷ codes "point" ∷ []) (record
 unfolding clap_on_literals command_app named_shape
 header = (refl, (refl, refl))
 
+parts : Means (codes "tdc" ∷ codes "parts" ∷ codes "point" ∷ []) (record { file = Parts; prefix = codes "point" })
+unfolding clap_on_literals command_app named_shape
+parts = (refl, (refl, refl))
+
 -- ---- what a parse found
 
 -- a command was entered, by its word and the rows of its own arguments
@@ -95,8 +99,13 @@ command_found (Err e) found word rows name entry is h = tt
 pub one_file : (a b : CFile) → word_of a ≡ word_of b → a ≡ b
 one_file Source Source same = refl
 one_file Source Header same = absurd (cc)
+one_file Source Parts same = absurd (cc)
 one_file Header Source same = absurd (cc)
 one_file Header Header same = refl
+one_file Header Parts same = absurd (cc)
+one_file Parts Source same = absurd (cc)
+one_file Parts Header same = absurd (cc)
+one_file Parts Parts same = refl
 
 same_some : {A : Type 0} (a b : A) → (let x : Option A = Some a in x ≡ Some b) → a ≡ b
 same_some a b e = cc

@@ -5,13 +5,14 @@ use Rattle.clap.specs.Walk.{Row, first_of}
 use Rattle.clap.specs.declared.builder.action.ArgAction.TheVariants.{Set}
 use Rattle.clap.specs.Faults.{fault_of}
 use Rattle.td_c_command.specs.declared.command.CFile.{CFile}
-use Rattle.td_c_command.specs.declared.command.CFile.TheVariants.{Source, Header}
+use Rattle.td_c_command.specs.declared.command.CFile.TheVariants.{Source, Header, Parts}
 use Rattle.td_c_command.specs.declared.command.Command.{Command}
 
 -- the word that asks for a file
 abbrev pub word_of : CFile → List ℕ
 word_of Source = codes "c"
 word_of Header = codes "header"
+word_of Parts = codes "parts"
 
 -- what `clap` found: a command's word, and the values of its arguments
 abbrev pub Found : Type 0
@@ -37,7 +38,7 @@ named_shape word = record (new_shape word) { rules = record (new_rule (codes "NA
 
 -- the program and its commands
 unfoldable pub command_app : App
-command_app = on_top (λ top. record top { subcommand_required = true }) (with_subcommand (with_subcommand (new_app (codes "tdc")) (named_shape (codes "c"))) (named_shape (codes "header")))
+command_app = on_top (λ top. record top { subcommand_required = true }) (with_subcommand (with_subcommand (with_subcommand (new_app (codes "tdc")) (named_shape (codes "c"))) (named_shape (codes "header"))) (named_shape (codes "parts")))
 
 -- `clap` takes the words, of which the first is the program's name, and finds this command in them. `--help`, `help`,
 -- `--version` and a further word are faults of the words, as is a word that names no command

@@ -17,6 +17,8 @@ pub enum CFile {
     Source,
     /// What is included: the declarations.
     Header,
+    /// What is compiled for messages in pieces: their functions.
+    Parts,
 }
 
 /// What `tdc` is to do: to write a file of C, of a module text.
@@ -36,6 +38,7 @@ fn file_of(word: &str) -> Option<CFile>
     match word {
         "c" => Some(CFile::Source),
         "header" => Some(CFile::Header),
+        "parts" => Some(CFile::Parts),
         _ => None,
     }
 }
@@ -98,6 +101,7 @@ fn command_app<'a>(alloc: Global) -> Result<clap::Command<'a>, AllocError>
     let tool = clap::Command::new(alloc, "tdc");
     let tool = with_command(alloc, tool, "c")?;
     let tool = with_command(alloc, tool, "header")?;
+    let tool = with_command(alloc, tool, "parts")?;
     Ok(tool.subcommand_required(true))
 }
 

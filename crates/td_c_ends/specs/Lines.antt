@@ -7,7 +7,7 @@ use Rattle.td_c_ends.specs.declared.refusal.Refusal.{Refusal}
 use Rattle.td_c_ends.specs.declared.refusal.Refusal.TheVariants.{BadName, TooLong, BadModule, NoEntry}
 
 abbrev pub usage_line : List ℕ
-usage_line = codes "usage: tdc c|header NAME\n"
+usage_line = codes "usage: tdc c|header|parts NAME\n"
 
 abbrev pub read_line : List ℕ
 read_line = codes "error read\n"

@@ -9,7 +9,7 @@ use td_io::{Sink, WriteFault};
 use td_report::error_line::front_line;
 
 /// Says what a command line may be.
-pub(crate) const USAGE: &[u8] = b"usage: tdc c|header NAME\n";
+pub(crate) const USAGE: &[u8] = b"usage: tdc c|header|parts NAME\n";
 
 /// Says that a read failed.
 pub(crate) const READ: &[u8] = b"error read\n";

@@ -43,11 +43,11 @@ limit_short limit.Depth = omega arith
 limit_short limit.Weight = omega arith
 
 unsafe_short : (op : Binary) → length (unsafe_words op) < 32
-unsafe_short operator.Plus = omega arith
-unsafe_short operator.Minus = omega arith
-unsafe_short operator.Times = omega arith
-unsafe_short operator.Over = omega arith
-unsafe_short operator.Modulo = omega arith
+unsafe_short operator.Add = omega arith
+unsafe_short operator.Subtract = omega arith
+unsafe_short operator.Multiply = omega arith
+unsafe_short operator.Divide = omega arith
+unsafe_short operator.Remainder = omega arith
 unsafe_short operator.BitAnd = omega arith
 unsafe_short operator.BitOr = omega arith
 unsafe_short operator.BitXor = omega arith

@@ -13,7 +13,7 @@ use td_front::{FrontError, check_module};
 use td_num::items::Items;
 
 /// The most bytes that a text has.
-pub const MOST_TEXT: usize = 4_194_304;
+pub const MOST_TEXT: usize = td_core::limits::MOST_INPUT;
 
 const DONE: i32 = 0;
 

@@ -2,18 +2,12 @@
 use Rattle.std.proofs.Common.{◌≡◌, ◌⊎◌, inl, inr, ℕ, ◌<◌, ◌≤◌, List, length, Result, Ok, Err, refl, subst, sym, ap, ◌∙◌, arith}
 use Rattle.std.proofs.lemmas.Bool.{false≢true}
 use Rattle.td_io.specs.States.{SinkState}
-use Rattle.td_core.specs.declared.module.Module.{Module}
+use Rattle.td_c_tool.specs.Imports.{Module, Command, Refusal, BadName, TooLong, BadModule, NoEntry, InputError, Refused, NoMemory, Status}
 use Rattle.td_front.specs.declared.error.FrontError.{FrontError}
 use Rattle.td_front.specs.declared.error.FrontError.TheVariants as front
 use Rattle.td_front.specs.ModuleText.{IsModuleText, RefusedBy}
 use Rattle.td_front.specs.Laws.{OneModuleEach, NeverBoth}
-use Rattle.td_c_command.specs.declared.command.Command.{Command}
 use Rattle.td_c_command.specs.Prefix.{IsPrefix}
-use Rattle.td_c_ends.specs.declared.refusal.Refusal.{Refusal}
-use Rattle.td_c_ends.specs.declared.refusal.Refusal.TheVariants.{BadName, TooLong, BadModule, NoEntry}
-use Rattle.td_c_ends.specs.declared.refusal.InputError.{InputError}
-use Rattle.td_c_ends.specs.declared.refusal.InputError.TheVariants.{Refused, NoMemory}
-use Rattle.td_c_ends.specs.declared.status.Status.{Status}
 use Rattle.td_c_ends.specs.declared.status.Status.TheVariants as at
 use Rattle.td_c_ends.specs.Causes.{HasCause, of_module}
 use Rattle.td_c_ends.specs.Errors.{unanswered_status, unanswered_line}

@@ -1,19 +1,15 @@
 -- An input has one answer, or it is refused.
 use Rattle.std.proofs.Common.{◌≡◌, ◌⊎◌, inl, inr, ℕ, ◌≤◌, List, [], ◌∷◌, length, refl, sym, ap, subst, ◌∙◌}
 use Rattle.std.proofs.lemmas.Bool.{cases_lt}
-use Rattle.td_core.specs.declared.module.Module.{Module}
+use Rattle.td_c_tool.specs.Imports.{Module, CFile, Source, Header, Parts as InParts, Command, Refusal, TooLong, BadModule, NoEntry}
 use Rattle.td_ir.specs.declared.tables.Parts.{Parts}
 use Rattle.td_front.specs.ModuleText.{IsModuleText}
 use Rattle.td_front.specs.Laws as front
 use Rattle.td_code.specs.Laws.{CodeIsOne}
-use Rattle.td_c_text.specs.Texts.{IsFileOf}
-use Rattle.td_prog_text.specs.Files.{c_file, header}
+use Rattle.td_c_text.specs.Texts.{IsFileOf, IsPartsFileOf, source}
+use Rattle.td_prog_text.specs.Files.{header}
+use Rattle.td_prog_text.specs.Parts.{parts_file}
 use Rattle.td_c_command.specs.Prefix.{IsPrefix}
-use Rattle.td_c_command.specs.declared.command.CFile.{CFile}
-use Rattle.td_c_command.specs.declared.command.CFile.TheVariants.{Source, Header}
-use Rattle.td_c_command.specs.declared.command.Command.{Command}
-use Rattle.td_c_ends.specs.declared.refusal.Refusal.{Refusal}
-use Rattle.td_c_ends.specs.declared.refusal.Refusal.TheVariants.{TooLong, BadModule, NoEntry}
 use Rattle.td_c_tool.specs.declared.tool.TheConstants.{INPUT_LIMIT}
 use Rattle.td_c_tool.specs.Answers.{Admits, Refuses, IsFile}
 use Rattle.td_c_tool.specs.Laws.{OneAnswer, NeverBoth, AlwaysOne}
@@ -24,9 +20,13 @@ use Rattle.td_c_tool.proofs.Answered.{not_refused, text_of}
 same_file : CodeIsOne → (file : Parts → List ℕ) (m : Module) (a b : List ℕ) → IsFileOf file m a → IsFileOf file m b → a ≡ b
 same_file one file m a b h g = h.bytes_are ∙ ap file (one h.code g.code m h.of g.of) ∙ sym g.bytes_are
 
+same_parts : CodeIsOne → (file : Parts → List ℕ) (m : Module) (a b : List ℕ) → IsPartsFileOf file m a → IsPartsFileOf file m b → a ≡ b
+same_parts one file m a b h g = h.bytes_are ∙ ap file (one h.code g.code m h.of g.of) ∙ sym g.bytes_are
+
 one_file : CodeIsOne → (file : CFile) (prefix : List ℕ) (m : Module) (a b : List ℕ) → IsFile file prefix m a → IsFile file prefix m b → a ≡ b
-one_file one Source prefix m a b h g = same_file one (c_file prefix) m a b h g
+one_file one Source prefix m a b h g = same_file one (source prefix) m a b h g
 one_file one Header prefix m a b h g = same_file one (header prefix) m a b h g
+one_file one InParts prefix m a b h g = same_parts one (parts_file prefix) m a b h g
 
 pub one_answer : front.OneModuleEach → CodeIsOne → OneAnswer
 one_answer modules codes command input a b h g =

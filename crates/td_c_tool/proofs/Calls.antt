@@ -7,13 +7,10 @@ use Rattle.td_io.specs.declared.reading.ReadError.TheVariants as reading
 use Rattle.td_io.specs.declared.reading.TheConstants.{PIECE}
 use Rattle.td_io.specs.Causes.{ReadWhole, HasMore, TookAtMost}
 use Rattle.td_io.specs.States.{SourceState, SinkState}
-use Rattle.td_c_command.specs.declared.command.Command.{Command}
+use Rattle.td_c_tool.specs.Imports.{Command, Refusal, BadName, TooLong, Status}
 use Rattle.td_c_command.specs.Command.{Means, MeansNone}
 use Rattle.td_c_command.specs.Prefix.{IsPrefix}
 use Rattle.td_c_command.proofs.Words.{one_command}
-use Rattle.td_c_ends.specs.declared.refusal.Refusal.{Refusal}
-use Rattle.td_c_ends.specs.declared.refusal.Refusal.TheVariants.{BadName, TooLong}
-use Rattle.td_c_ends.specs.declared.status.Status.{Status}
 use Rattle.td_c_ends.specs.declared.status.Status.TheVariants as at
 use Rattle.td_c_ends.specs.Errors.{unread_status, unread_line}
 use Rattle.td_c_ends.specs.Lines.{usage_line, read_line, memory_line, refusal_line}

@@ -1,20 +1,16 @@
 -- What `tdc` answers an input, and what refuses it (own rule). TooLong comes before BadModule, and that before NoEntry.
 use Rattle.std.specs.Prelude.{◌≡◌, ◌≢◌, ℕ, ◌<◌, ◌≤◌, List, [], length}
-use Rattle.td_core.specs.declared.module.Module.{Module}
+use Rattle.td_c_tool.specs.Imports.{Module, CFile, Source, Header, Parts, Command, Refusal, BadName, TooLong, BadModule, NoEntry}
 use Rattle.td_front.specs.ModuleText.{IsModuleText, RefusedBy}
-use Rattle.td_c_text.specs.Texts.{IsCSource, IsCHeader}
+use Rattle.td_c_text.specs.Texts.{IsCSource, IsCHeader, IsCParts}
 use Rattle.td_c_command.specs.Prefix.{IsPrefix}
-use Rattle.td_c_command.specs.declared.command.CFile.{CFile}
-use Rattle.td_c_command.specs.declared.command.CFile.TheVariants.{Source, Header}
-use Rattle.td_c_command.specs.declared.command.Command.{Command}
-use Rattle.td_c_ends.specs.declared.refusal.Refusal.{Refusal}
-use Rattle.td_c_ends.specs.declared.refusal.Refusal.TheVariants.{BadName, TooLong, BadModule, NoEntry}
 use Rattle.td_c_tool.specs.declared.tool.TheConstants.{INPUT_LIMIT}
 
 -- the bytes are this file of the module's C
 abbrev pub IsFile : CFile → List ℕ → Module → List ℕ → Type 0
 IsFile Source prefix m bytes = IsCSource prefix m bytes
 IsFile Header prefix m bytes = IsCHeader prefix m bytes
+IsFile Parts prefix m bytes = IsCParts prefix m bytes
 
 -- the module has an entry point, which is a function of its C
 abbrev pub HasEntry : Module → Type 0

@@ -5,12 +5,9 @@ use Rattle.std.specs.Io.KnownBytes.{IsAtEnd}
 use Rattle.td_io.specs.Causes.{ReadWhole, TookAtMost}
 use Rattle.td_io.specs.States as io
 use Rattle.td_io.specs.declared.reading.TheConstants.{PIECE}
-use Rattle.td_c_command.specs.declared.command.Command.{Command}
+use Rattle.td_c_tool.specs.Imports.{Command, Refusal, BadName, Status}
 use Rattle.td_c_command.specs.Command.{Means, MeansNone}
 use Rattle.td_c_command.specs.Prefix.{IsPrefix}
-use Rattle.td_c_ends.specs.declared.refusal.Refusal.{Refusal}
-use Rattle.td_c_ends.specs.declared.refusal.Refusal.TheVariants.{BadName}
-use Rattle.td_c_ends.specs.declared.status.Status.{Status}
 use Rattle.td_c_ends.specs.declared.status.Status.TheVariants.{Done, Refused, Usage, ReadFault, WriteFault, NoMemory}
 use Rattle.td_c_ends.specs.Lines.{usage_line, read_line, memory_line, refusal_line}
 use Rattle.td_c_ends.specs.Passages.{Passage, Takes, WriteFails}

@@ -1,11 +1,7 @@
 -- What is made of an input, before it goes out.
 use Rattle.std.specs.Prelude.{◌≡◌, ℕ, List, [], Result, Ok, Err, IfOk, IfErr, IsErr}
-use Rattle.td_core.specs.declared.module.Module.{Module}
+use Rattle.td_c_tool.specs.Imports.{Module, Refusal, InputError, NoEntry, Refused, NoMemory}
 use Rattle.td_front.specs.ModuleText.{IsModuleText}
-use Rattle.td_c_ends.specs.declared.refusal.Refusal.{Refusal}
-use Rattle.td_c_ends.specs.declared.refusal.InputError.{InputError}
-use Rattle.td_c_ends.specs.declared.refusal.Refusal.TheVariants.{NoEntry}
-use Rattle.td_c_ends.specs.declared.refusal.InputError.TheVariants.{Refused, NoMemory}
 use Rattle.td_c_ends.specs.Causes.{HasCause}
 use Rattle.td_c_tool.specs.Answers.{HasEntry, RefusesText}
 

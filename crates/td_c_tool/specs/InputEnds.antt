@@ -1,9 +1,7 @@
 -- How an input that was read ends a call, whose name can begin names of C.
 use Rattle.std.specs.Prelude.{◌≢◌, ◌⊎◌, ℕ, List}
 use Rattle.td_io.specs.States.{SinkState}
-use Rattle.td_c_command.specs.declared.command.Command.{Command}
-use Rattle.td_c_ends.specs.declared.refusal.Refusal.{Refusal}
-use Rattle.td_c_ends.specs.declared.status.Status.{Status}
+use Rattle.td_c_tool.specs.Imports.{Command, Refusal, Status}
 use Rattle.td_c_ends.specs.declared.status.Status.TheVariants as at
 use Rattle.td_c_ends.specs.Lines.{memory_line, refusal_line}
 use Rattle.td_c_ends.specs.Passages.{Passage, EndsWithOutput, EndsWithLine}

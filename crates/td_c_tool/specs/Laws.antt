@@ -1,8 +1,7 @@
 -- What holds of answers and refusals.
 use Rattle.std.specs.Prelude.{◌≡◌, ◌⊎◌, ℕ, List}
 use Rattle.td_c_command.specs.Prefix.{IsPrefix}
-use Rattle.td_c_command.specs.declared.command.Command.{Command}
-use Rattle.td_c_ends.specs.declared.refusal.Refusal.{Refusal}
+use Rattle.td_c_tool.specs.Imports.{Command, Refusal}
 use Rattle.td_c_tool.specs.Answers.{Answers, Admits, Refuses}
 
 -- a command answers an input with at most one output

@@ -1,3 +1,4 @@
+pub mod Imports
 pub mod Answers
 pub mod CallEnds
 pub mod InputEnds

@@ -13,7 +13,7 @@ use crate::tool::INPUT_LIMIT;
 use std::alloc::{AllocError, Global};
 use td_c_command::command::{CFile, Command};
 use td_c_ends::{InputError, Refusal, Status, finish_bytes, finish_unanswered, of_module};
-use td_c_text::{c_header, c_source};
+use td_c_text::{c_header, c_parts, c_source};
 use td_core::module::Module;
 use td_front::check_module;
 use td_front::laws::one_answer_each;
@@ -28,6 +28,7 @@ fn file_of(alloc: Global, command: &Command, m: &Module) -> Result<Text, AllocEr
     match command.file {
         CFile::Source => c_source(alloc, m, command.prefix.as_slice()),
         CFile::Header => c_header(alloc, m, command.prefix.as_slice()),
+        CFile::Parts => c_parts(alloc, m, command.prefix.as_slice()),
     }
 }
 

@@ -16,7 +16,7 @@ use td_c_ends::{
 use td_io::{Sink, Source, read_whole};
 
 /// How many bytes an input has at most: 4 MiB.
-pub const INPUT_LIMIT: usize = 4_194_304;
+pub const INPUT_LIMIT: usize = td_core::limits::MOST_INPUT;
 
 // Reads the source and answers its input.
 fn answer_source<S: Source, O: Sink, E: Sink>(

@@ -17,7 +17,8 @@ use Rattle.td_job_host.specs.Laws.{AlwaysOneHost}
 use Rattle.td_cli_input.specs.Inputs.{IsInputOf, RefusesInput}
 use Rattle.td_cli_input.proofs.Inputs.{Kind, Faults}
 use Rattle.td_cli_host.specs.Laws.{RingsReadOrNot}
-use Rattle.td_cli_command.specs.declared.command.Command.TheVariants.{Check, Tidy, Run, Host, Code, Pack, Bench}
+use Rattle.td_cli_command.specs.declared.command.Command.TheVariants.{Read, Host, Bench}
+use Rattle.td_cli_command.specs.declared.command.Reading.TheVariants.{Check, Tidy, Run, Code, Pack}
 use Rattle.td_cli_input.specs.declared.refusal.Refusal.{Refusal}
 use Rattle.td_cli_input.specs.declared.refusal.Refusal.TheVariants.{TooLong, NoJob, BadModule, BadJob, NoRing}
 use Rattle.td_cli.specs.declared.tool.TheConstants.{INPUT_LIMIT}
@@ -30,16 +31,16 @@ use Rattle.td_cli_input.proofs.Markers.{marker_below}
 
 -- ---- inputs
 
-check_short : AlwaysOneText → (input : List ℕ) → length input ≤ INPUT_LIMIT → Admits Check input ⊎ ((refusal : Refusal) × Refuses Check input refusal)
+check_short : AlwaysOneText → (input : List ℕ) → length input ≤ INPUT_LIMIT → Admits (Read Check) input ⊎ ((refusal : Refusal) × Refuses (Read Check) input refusal)
 check_short texts input short = elim (texts input) [ inl (m, h) ↦ inl (short, m, h) | inr (e, h) ↦ inr (BadModule e, (short, h)) ]
 
-tidy_short : AlwaysOneText → (input : List ℕ) → length input ≤ INPUT_LIMIT → Admits Tidy input ⊎ ((refusal : Refusal) × Refuses Tidy input refusal)
+tidy_short : AlwaysOneText → (input : List ℕ) → length input ≤ INPUT_LIMIT → Admits (Read Tidy) input ⊎ ((refusal : Refusal) × Refuses (Read Tidy) input refusal)
 tidy_short texts input short = elim (texts input) [ inl (m, h) ↦ inl (short, m, h) | inr (e, h) ↦ inr (BadModule e, (short, h)) ]
 
-code_short : AlwaysOneText → (input : List ℕ) → length input ≤ INPUT_LIMIT → Admits Code input ⊎ ((refusal : Refusal) × Refuses Code input refusal)
+code_short : AlwaysOneText → (input : List ℕ) → length input ≤ INPUT_LIMIT → Admits (Read Code) input ⊎ ((refusal : Refusal) × Refuses (Read Code) input refusal)
 code_short texts input short = elim (texts input) [ inl (m, h) ↦ inl (short, m, h) | inr (e, h) ↦ inr (BadModule e, (short, h)) ]
 
-pack_short : AlwaysOneText → (input : List ℕ) → length input ≤ INPUT_LIMIT → Admits Pack input ⊎ ((refusal : Refusal) × Refuses Pack input refusal)
+pack_short : AlwaysOneText → (input : List ℕ) → length input ≤ INPUT_LIMIT → Admits (Read Pack) input ⊎ ((refusal : Refusal) × Refuses (Read Pack) input refusal)
 pack_short texts input short = elim (texts input) [ inl (m, h) ↦ inl (short, m, h) | inr (e, h) ↦ inr (BadModule e, (short, h)) ]
 
 -- what is known of an input of jobs of one kind
@@ -56,7 +57,7 @@ job_short Is Bad texts jobs input = elim (marker_below input (length input)) [
   ]
 ]
 
-run_short : AlwaysOneText → AlwaysOneJob → (input : List ℕ) → length input ≤ INPUT_LIMIT → Admits Run input ⊎ ((refusal : Refusal) × Refuses Run input refusal)
+run_short : AlwaysOneText → AlwaysOneJob → (input : List ℕ) → length input ≤ INPUT_LIMIT → Admits (Read Run) input ⊎ ((refusal : Refusal) × Refuses (Read Run) input refusal)
 run_short texts jobs input short = elim (job_short IsRunJob RefusedJob texts jobs input) [
   | inl h ↦ inl (short, h.0, h.1, h.2)
   | inr (TooLong, h) ↦ absurd h
@@ -126,10 +127,10 @@ bench_one texts messages jobs n = elim (bench_texts texts n) [
 ]
 
 pub always_one : AlwaysOneText → RingsReadOrNot → AlwaysOneJob → AlwaysOneHost → SomeMessageEach → AlwaysOneNamed → AlwaysOne
-always_one texts rings jobs hosts messages named Check input = elim (cases_lt INPUT_LIMIT (length input)) [ inl long ↦ inr (TooLong, long) | inr short ↦ check_short texts input short ]
-always_one texts rings jobs hosts messages named Tidy input = elim (cases_lt INPUT_LIMIT (length input)) [ inl long ↦ inr (TooLong, long) | inr short ↦ tidy_short texts input short ]
-always_one texts rings jobs hosts messages named Code input = elim (cases_lt INPUT_LIMIT (length input)) [ inl long ↦ inr (TooLong, long) | inr short ↦ code_short texts input short ]
-always_one texts rings jobs hosts messages named Pack input = elim (cases_lt INPUT_LIMIT (length input)) [ inl long ↦ inr (TooLong, long) | inr short ↦ pack_short texts input short ]
-always_one texts rings jobs hosts messages named Run input = elim (cases_lt INPUT_LIMIT (length input)) [ inl long ↦ inr (TooLong, long) | inr short ↦ run_short texts jobs input short ]
+always_one texts rings jobs hosts messages named (Read Check) input = elim (cases_lt INPUT_LIMIT (length input)) [ inl long ↦ inr (TooLong, long) | inr short ↦ check_short texts input short ]
+always_one texts rings jobs hosts messages named (Read Tidy) input = elim (cases_lt INPUT_LIMIT (length input)) [ inl long ↦ inr (TooLong, long) | inr short ↦ tidy_short texts input short ]
+always_one texts rings jobs hosts messages named (Read Code) input = elim (cases_lt INPUT_LIMIT (length input)) [ inl long ↦ inr (TooLong, long) | inr short ↦ code_short texts input short ]
+always_one texts rings jobs hosts messages named (Read Pack) input = elim (cases_lt INPUT_LIMIT (length input)) [ inl long ↦ inr (TooLong, long) | inr short ↦ pack_short texts input short ]
+always_one texts rings jobs hosts messages named (Read Run) input = elim (cases_lt INPUT_LIMIT (length input)) [ inl long ↦ inr (TooLong, long) | inr short ↦ run_short texts jobs input short ]
 always_one texts rings jobs hosts messages named Host input = elim (cases_lt INPUT_LIMIT (length input)) [ inl long ↦ inr (TooLong, long) | inr short ↦ host_short texts rings hosts input short ]
 always_one texts rings jobs hosts messages named (Bench n) input = bench_one texts messages named n

@@ -30,7 +30,8 @@ use Rattle.td_code.specs.Compile.{IsListing, IsPacked}
 use Rattle.td_code.specs.Laws.{OneListing, OnePacked}
 use Rattle.td_report.specs.Report.{report}
 use Rattle.td_report.specs.Summary.{summary}
-use Rattle.td_cli_command.specs.declared.command.Command.TheVariants.{Check, Tidy, Run, Host, Code, Pack, Bench}
+use Rattle.td_cli_command.specs.declared.command.Command.TheVariants.{Read, Host, Bench}
+use Rattle.td_cli_command.specs.declared.command.Reading.TheVariants.{Check, Tidy, Run, Code, Pack}
 use Rattle.td_cli_input.specs.declared.refusal.Refusal.{Refusal}
 use Rattle.td_cli_input.specs.declared.refusal.Refusal.TheVariants.{TooLong, NoJob, BadModule, BadJob, NoRing}
 use Rattle.td_cli.specs.declared.tool.TheConstants.{INPUT_LIMIT}
@@ -99,22 +100,22 @@ of_module Is modules one input a b h g =
 -- ---- each command
 
 pub one_answer : TokensAreOne → OneTree → OneModuleEach → OneJobEach → OneMessageEach → OneNamedJobEach → RunsAreOne → SomeCarry → OneListing → OnePacked → OneAnswer
-one_answer split tree modules jobs messages named one some listings images Check input a b alone h g = one_summary modules input a b h.1 g.1
-one_answer split tree modules jobs messages named one some listings images Tidy input a b alone h g = one_tidy split tree input a b h.1 g.1
-one_answer split tree modules jobs messages named one some listings images Run input a b alone h g = one_report modules jobs one some input a b h.1 g.1
+one_answer split tree modules jobs messages named one some listings images (Read Check) input a b alone h g = one_summary modules input a b h.1 g.1
+one_answer split tree modules jobs messages named one some listings images (Read Tidy) input a b alone h g = one_tidy split tree input a b h.1 g.1
+one_answer split tree modules jobs messages named one some listings images (Read Run) input a b alone h g = one_report modules jobs one some input a b h.1 g.1
 one_answer split tree modules jobs messages named one some listings images Host input a b alone h g = absurd alone
-one_answer split tree modules jobs messages named one some listings images Code input a b alone h g = of_module IsListing modules listings input a b h.1 g.1
-one_answer split tree modules jobs messages named one some listings images Pack input a b alone h g = of_module IsPacked modules images input a b h.1 g.1
+one_answer split tree modules jobs messages named one some listings images (Read Code) input a b alone h g = of_module IsListing modules listings input a b h.1 g.1
+one_answer split tree modules jobs messages named one some listings images (Read Pack) input a b alone h g = of_module IsPacked modules images input a b h.1 g.1
 one_answer split tree modules jobs messages named one some listings images (Bench n) input a b alone h g = one_bench modules messages named one some n a b h g
 
 -- ---- never both
 
 pub answered_admitted : AnsweredIsAdmitted
-answered_admitted Check input output h = (h.0, h.1.0, h.1.1)
-answered_admitted Tidy input output h = (h.0, h.1.0, h.1.1)
-answered_admitted Code input output h = (h.0, h.1.0, h.1.1)
-answered_admitted Pack input output h = (h.0, h.1.0, h.1.1)
-answered_admitted Run input output h = (h.0, h.1.m, h.1.job, h.1.input_is)
+answered_admitted (Read Check) input output h = (h.0, h.1.0, h.1.1)
+answered_admitted (Read Tidy) input output h = (h.0, h.1.0, h.1.1)
+answered_admitted (Read Code) input output h = (h.0, h.1.0, h.1.1)
+answered_admitted (Read Pack) input output h = (h.0, h.1.0, h.1.1)
+answered_admitted (Read Run) input output h = (h.0, h.1.m, h.1.job, h.1.input_is)
 answered_admitted Host input output h = let s = h.1.served in (h.0, s.m, s.job, s.input_is, read_by s.job.rings s.descriptors h.1.ring s.ring_is)
 answered_admitted (Bench n) input output h = totals_admitted n h.0 h.1
 
@@ -125,31 +126,31 @@ refused Is Bad modules texts jobs input m job h refusal g =
     nothing_refuses Bad input h.place m h.marker (λ x k. modules (module_part input h.place) m x h.text k) (λ e k. texts (module_part input h.place) m e h.text k) (λ e k. jobs (job_part input h.place) m job e h.good k) refusal g
 
 pub never_both : OneModuleEach → NeverBothTexts → NeverBothJobs → OneHostJobEach → NeverBothHost → OneMessageEach → NeverBothNamed → NeverBoth
-never_both modules texts jobs one hosts messages named Check input TooLong h g = let short : length input ≤ INPUT_LIMIT = h.0 in let over : INPUT_LIMIT < length input = g in omega arith
-never_both modules texts jobs one hosts messages named Check input NoJob h g = g.1
-never_both modules texts jobs one hosts messages named Check input (BadModule e) h g = texts input h.1 e h.2 g.1
-never_both modules texts jobs one hosts messages named Check input (BadJob e) h g = g.1
-never_both modules texts jobs one hosts messages named Check input NoRing h g = g.1
-never_both modules texts jobs one hosts messages named Tidy input TooLong h g = let short : length input ≤ INPUT_LIMIT = h.0 in let over : INPUT_LIMIT < length input = g in omega arith
-never_both modules texts jobs one hosts messages named Code input TooLong h g = let short : length input ≤ INPUT_LIMIT = h.0 in let over : INPUT_LIMIT < length input = g in omega arith
-never_both modules texts jobs one hosts messages named Pack input TooLong h g = let short : length input ≤ INPUT_LIMIT = h.0 in let over : INPUT_LIMIT < length input = g in omega arith
-never_both modules texts jobs one hosts messages named Tidy input NoJob h g = g.1
-never_both modules texts jobs one hosts messages named Code input NoJob h g = g.1
-never_both modules texts jobs one hosts messages named Pack input NoJob h g = g.1
-never_both modules texts jobs one hosts messages named Tidy input (BadModule e) h g = texts input h.1 e h.2 g.1
-never_both modules texts jobs one hosts messages named Code input (BadModule e) h g = texts input h.1 e h.2 g.1
-never_both modules texts jobs one hosts messages named Pack input (BadModule e) h g = texts input h.1 e h.2 g.1
-never_both modules texts jobs one hosts messages named Tidy input (BadJob e) h g = g.1
-never_both modules texts jobs one hosts messages named Tidy input NoRing h g = g.1
-never_both modules texts jobs one hosts messages named Code input (BadJob e) h g = g.1
-never_both modules texts jobs one hosts messages named Code input NoRing h g = g.1
-never_both modules texts jobs one hosts messages named Pack input (BadJob e) h g = g.1
-never_both modules texts jobs one hosts messages named Pack input NoRing h g = g.1
-never_both modules texts jobs one hosts messages named Run input TooLong h g = let short : length input ≤ INPUT_LIMIT = h.0 in let over : INPUT_LIMIT < length input = g in omega arith
-never_both modules texts jobs one hosts messages named Run input NoJob h g = g.1 h.3.place h.3.marker.marker
-never_both modules texts jobs one hosts messages named Run input (BadModule e) h g = refused IsRunJob RefusedJob modules texts jobs input h.1 h.2 h.3 (BadModule e) g.1
-never_both modules texts jobs one hosts messages named Run input (BadJob e) h g = refused IsRunJob RefusedJob modules texts jobs input h.1 h.2 h.3 (BadJob e) g.1
-never_both modules texts jobs one hosts messages named Run input NoRing h g = g.1
+never_both modules texts jobs one hosts messages named (Read Check) input TooLong h g = let short : length input ≤ INPUT_LIMIT = h.0 in let over : INPUT_LIMIT < length input = g in omega arith
+never_both modules texts jobs one hosts messages named (Read Check) input NoJob h g = g.1
+never_both modules texts jobs one hosts messages named (Read Check) input (BadModule e) h g = texts input h.1 e h.2 g.1
+never_both modules texts jobs one hosts messages named (Read Check) input (BadJob e) h g = g.1
+never_both modules texts jobs one hosts messages named (Read Check) input NoRing h g = g.1
+never_both modules texts jobs one hosts messages named (Read Tidy) input TooLong h g = let short : length input ≤ INPUT_LIMIT = h.0 in let over : INPUT_LIMIT < length input = g in omega arith
+never_both modules texts jobs one hosts messages named (Read Code) input TooLong h g = let short : length input ≤ INPUT_LIMIT = h.0 in let over : INPUT_LIMIT < length input = g in omega arith
+never_both modules texts jobs one hosts messages named (Read Pack) input TooLong h g = let short : length input ≤ INPUT_LIMIT = h.0 in let over : INPUT_LIMIT < length input = g in omega arith
+never_both modules texts jobs one hosts messages named (Read Tidy) input NoJob h g = g.1
+never_both modules texts jobs one hosts messages named (Read Code) input NoJob h g = g.1
+never_both modules texts jobs one hosts messages named (Read Pack) input NoJob h g = g.1
+never_both modules texts jobs one hosts messages named (Read Tidy) input (BadModule e) h g = texts input h.1 e h.2 g.1
+never_both modules texts jobs one hosts messages named (Read Code) input (BadModule e) h g = texts input h.1 e h.2 g.1
+never_both modules texts jobs one hosts messages named (Read Pack) input (BadModule e) h g = texts input h.1 e h.2 g.1
+never_both modules texts jobs one hosts messages named (Read Tidy) input (BadJob e) h g = g.1
+never_both modules texts jobs one hosts messages named (Read Tidy) input NoRing h g = g.1
+never_both modules texts jobs one hosts messages named (Read Code) input (BadJob e) h g = g.1
+never_both modules texts jobs one hosts messages named (Read Code) input NoRing h g = g.1
+never_both modules texts jobs one hosts messages named (Read Pack) input (BadJob e) h g = g.1
+never_both modules texts jobs one hosts messages named (Read Pack) input NoRing h g = g.1
+never_both modules texts jobs one hosts messages named (Read Run) input TooLong h g = let short : length input ≤ INPUT_LIMIT = h.0 in let over : INPUT_LIMIT < length input = g in omega arith
+never_both modules texts jobs one hosts messages named (Read Run) input NoJob h g = g.1 h.3.place h.3.marker.marker
+never_both modules texts jobs one hosts messages named (Read Run) input (BadModule e) h g = refused IsRunJob RefusedJob modules texts jobs input h.1 h.2 h.3 (BadModule e) g.1
+never_both modules texts jobs one hosts messages named (Read Run) input (BadJob e) h g = refused IsRunJob RefusedJob modules texts jobs input h.1 h.2 h.3 (BadJob e) g.1
+never_both modules texts jobs one hosts messages named (Read Run) input NoRing h g = g.1
 never_both modules texts jobs one hosts messages named Host input TooLong h g = let short : length input ≤ INPUT_LIMIT = h.0 in let over : INPUT_LIMIT < length input = g in omega arith
 never_both modules texts jobs one hosts messages named Host input NoJob h g = g.1 h.3.place h.3.marker.marker
 never_both modules texts jobs one hosts messages named Host input (BadModule e) h g = refused IsHostJob RefusedHostJob modules texts hosts input h.1 h.2 h.3 (BadModule e) g.1

@@ -6,7 +6,8 @@ use Rattle.td_io.specs.declared.reading.ReadError.TheVariants as reading
 use Rattle.td_io.specs.Causes.{ReadWhole, HasMore, TookAtMost}
 use Rattle.td_io.specs.States.{SourceState, SinkState}
 use Rattle.td_cli_command.specs.declared.command.Command.{Command}
-use Rattle.td_cli_command.specs.declared.command.Command.TheVariants.{Check, Tidy, Run, Host, Code, Pack, Bench}
+use Rattle.td_cli_command.specs.declared.command.Command.TheVariants.{Read, Host, Bench}
+use Rattle.td_cli_command.specs.declared.command.Reading.TheVariants.{Check, Tidy, Run, Code, Pack}
 use Rattle.td_cli_input.specs.declared.refusal.Refusal.{Refusal}
 use Rattle.td_cli_input.specs.declared.refusal.Refusal.TheVariants.{TooLong}
 use Rattle.td_cli.specs.declared.status.Status.{Status}
@@ -75,20 +76,12 @@ pub record WasTaken (words : List (List ℕ)) (command : Command) (source : Pass
   pub lack : MayLackMemory words source
 
 took_read : (command : Command) (source : Passage SourceState) (input : List ℕ) → Reads command → WasRead source input → Took command source input
-took_read Check source input reads read = (read.held, read.end, read.quiet)
-took_read Tidy source input reads read = (read.held, read.end, read.quiet)
-took_read Code source input reads read = (read.held, read.end, read.quiet)
-took_read Pack source input reads read = (read.held, read.end, read.quiet)
-took_read Run source input reads read = (read.held, read.end, read.quiet)
+took_read (Read reading) source input reads read = (read.held, read.end, read.quiet)
 took_read Host source input reads read = (read.held, read.end, read.quiet)
 took_read (Bench n) source input reads read = absurd reads
 
 saw_read : (command : Command) (source : Passage SourceState) (input : List ℕ) → Reads command → Held source input → NoReadFails source → Saw command source input
-saw_read Check source input reads held quiet = (held, quiet)
-saw_read Tidy source input reads held quiet = (held, quiet)
-saw_read Code source input reads held quiet = (held, quiet)
-saw_read Pack source input reads held quiet = (held, quiet)
-saw_read Run source input reads held quiet = (held, quiet)
+saw_read (Read reading) source input reads held quiet = (held, quiet)
 saw_read Host source input reads held quiet = (held, quiet)
 saw_read (Bench n) source input reads held quiet = absurd reads
 
@@ -127,11 +120,11 @@ long_input None more = let long = some_longer INPUT_LIMIT in (long.0, tt, long.1
 long_input (Some bytes) more = (bytes, refl, more)
 
 refuses_long : (command : Command) (input : List ℕ) → Reads command → INPUT_LIMIT < length input → Refuses command input TooLong
-refuses_long Check input reads long = long
-refuses_long Tidy input reads long = long
-refuses_long Code input reads long = long
-refuses_long Pack input reads long = long
-refuses_long Run input reads long = long
+refuses_long (Read Check) input reads long = long
+refuses_long (Read Tidy) input reads long = long
+refuses_long (Read Code) input reads long = long
+refuses_long (Read Pack) input reads long = long
+refuses_long (Read Run) input reads long = long
 refuses_long Host input reads long = long
 refuses_long (Bench n) input reads long = absurd reads
 
@@ -161,11 +154,11 @@ unread_never reading.TooLong err result other read refused memory fault h = ends
 unread_never reading.NoMemory err result other read refused memory fault h = ends_or_fails at.NoMemory memory_line err result other h memory fault
 
 admits_short : (command : Command) (input : List ℕ) → Reads command → Admits command input → length input ≤ INPUT_LIMIT
-admits_short Check input reads h = h.0
-admits_short Tidy input reads h = h.0
-admits_short Code input reads h = h.0
-admits_short Pack input reads h = h.0
-admits_short Run input reads h = h.0
+admits_short (Read Check) input reads h = h.0
+admits_short (Read Tidy) input reads h = h.0
+admits_short (Read Code) input reads h = h.0
+admits_short (Read Pack) input reads h = h.0
+admits_short (Read Run) input reads h = h.0
 admits_short Host input reads h = h.0
 admits_short (Bench n) input reads h = absurd reads
 

@@ -4,7 +4,8 @@ use Rattle.td_io.specs.States.{SinkState}
 use Rattle.td_core.specs.declared.module.Module.{Module}
 use Rattle.td_job.specs.declared.run_job.RunJob.{RunJob}
 use Rattle.td_report.specs.Report.{report}
-use Rattle.td_cli_command.specs.declared.command.Command.TheVariants.{Run}
+use Rattle.td_cli_command.specs.declared.command.Command.TheVariants.{Read}
+use Rattle.td_cli_command.specs.declared.command.Reading.TheVariants.{Run}
 use Rattle.td_cli_input.specs.declared.refusal.Refusal.{Refusal}
 use Rattle.td_cli_input.specs.declared.refusal.Refusal.TheVariants.{TooLong, NoJob, BadModule, BadJob, NoRing}
 use Rattle.td_cli_input.specs.declared.refusal.InputError.{InputError}
@@ -24,14 +25,14 @@ use Rattle.td_cli.specs.InputEnds.{EndsWith, AnswersInput}
 use Rattle.td_cli_input.proofs.Markers.{marker_there}
 use Rattle.td_cli.proofs.Answered.{output_answers, refusal_answers, memory_answers}
 
-refuses_short : (input : List ℕ) (refusal : Refusal) → length input ≤ INPUT_LIMIT → RefusesRun input refusal → Refuses Run input refusal
+refuses_short : (input : List ℕ) (refusal : Refusal) → length input ≤ INPUT_LIMIT → RefusesRun input refusal → Refuses (Read Run) input refusal
 refuses_short input TooLong short h = absurd h
 refuses_short input NoJob short h = (short, h)
 refuses_short input (BadModule e) short h = (short, h)
 refuses_short input (BadJob e) short h = (short, h)
 refuses_short input NoRing short h = absurd h
 
-refuses_run : (input : List ℕ) (refusal : Refusal) → length input ≤ INPUT_LIMIT → Refuses Run input refusal → RefusesRun input refusal
+refuses_run : (input : List ℕ) (refusal : Refusal) → length input ≤ INPUT_LIMIT → Refuses (Read Run) input refusal → RefusesRun input refusal
 refuses_run input TooLong short h = absurd (omega arith)
 refuses_run input NoJob short h = h.1
 refuses_run input (BadModule e) short h = h.1
@@ -43,10 +44,10 @@ pub run_answers : (input : List ℕ) (run : FinishedRun) (out err : Passage Sink
     → length input ≤ INPUT_LIMIT → IsRunInput input run.input.module run.input.job → IsRunOf run.input.module run.input.job run.outcome run.loads.list
     → ((refusal : Refusal) → RefusesRun input refusal → ⊥)
     → EndsWith at.Done (report run.outcome run.input.module run.input.job.entry run.loads.list run.input.job.layout run.input.job.written) out result → err.Untouched
-    → AnswersInput Run input out err result
+    → AnswersInput (Read Run) input out err result
 run_answers input run out err result short given ran never h free =
     let text = report run.outcome run.input.module run.input.job.entry run.loads.list run.input.job.layout run.input.job.written in
-    output_answers Run input text out err result
+    output_answers (Read Run) input text out err result
     (short, record { m = run.input.module; job = run.input.job; outcome = run.outcome; loads = run.loads.list; input_is = given; run = ran; text_is = refl })
     (λ refusal refuses. never refusal (refuses_run input refusal short refuses)) h free
 
@@ -54,8 +55,8 @@ run_answers input run out err result short given ran never h free =
 pub run_unanswered : (input : List ℕ) (e : InputError) (out err : Passage SinkState) (result : Status)
     → length input ≤ INPUT_LIMIT → HasCause (RefusesRun input) e → ((m : Module) (job : RunJob) → IsRunInput input m job → e ≡ NoMemory)
     → (((n : ℕ) → IsMarker input n → ⊥) → (let r : Result FinishedRun InputError = Err e in IsErrOf r (Refused NoJob)))
-    → EndsWith (unanswered_status e) (unanswered_line input e) err result → out.Untouched → AnswersInput Run input out err result
+    → EndsWith (unanswered_status e) (unanswered_line input e) err result → out.Untouched → AnswersInput (Read Run) input out err result
 run_unanswered input (Refused refusal) out err result short cause only none h free =
-    refusal_answers Run input refusal out err result (refuses_short input refusal short cause) (λ admits. let no : Refused refusal ≡ NoMemory = only admits.1 admits.2 admits.3 in cc) h free
+    refusal_answers (Read Run) input refusal out err result (refuses_short input refusal short cause) (λ admits. let no : Refused refusal ≡ NoMemory = only admits.1 admits.2 admits.3 in cc) h free
 run_unanswered input NoMemory out err result short cause only none h free =
-    memory_answers Run input out err result (marker_there input (λ never. let same = none never in absurd (cc same))) h free
+    memory_answers (Read Run) input out err result (marker_there input (λ never. let same = none never in absurd (cc same))) h free

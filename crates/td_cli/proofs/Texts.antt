@@ -7,7 +7,8 @@ use Rattle.td_front.specs.declared.error.FrontError.{FrontError}
 use Rattle.td_front.specs.ModuleText.{IsModuleText, RefusedBy}
 use Rattle.td_job.specs.declared.error.JobError.{JobError}
 use Rattle.td_cli_command.specs.declared.command.Command.{Command}
-use Rattle.td_cli_command.specs.declared.command.Command.TheVariants.{Check, Tidy, Code, Pack}
+use Rattle.td_cli_command.specs.declared.command.Command.TheVariants.{Read}
+use Rattle.td_cli_command.specs.declared.command.Reading.TheVariants.{Check, Tidy, Code, Pack}
 use Rattle.td_cli_input.specs.declared.refusal.Refusal.{Refusal}
 use Rattle.td_cli_input.specs.declared.refusal.Refusal.TheVariants.{TooLong, NoJob, BadModule, BadJob, NoRing}
 use Rattle.td_cli_input.specs.declared.refusal.InputError.{InputError}
@@ -33,7 +34,7 @@ pub record IsOfTexts (command : Command) : Type 0 where
   pub admits : (input : List ℕ) → Admits command input → (m : Module) × IsModuleText input m
   pub needs : (input : List ℕ) → NeedsMemory command input
 
-pub of_check : IsOfTexts Check
+pub of_check : IsOfTexts (Read Check)
 of_check = record {
   refuses = λ input e short h. (short, h);
   too_long = λ input h. h;
@@ -45,7 +46,7 @@ of_check = record {
   needs = λ input. tt;
 }
 
-pub of_tidy : IsOfTexts Tidy
+pub of_tidy : IsOfTexts (Read Tidy)
 of_tidy = record {
   refuses = λ input e short h. (short, h);
   too_long = λ input h. h;
@@ -57,7 +58,7 @@ of_tidy = record {
   needs = λ input. tt;
 }
 
-pub of_code : IsOfTexts Code
+pub of_code : IsOfTexts (Read Code)
 of_code = record {
   refuses = λ input e short h. (short, h);
   too_long = λ input h. h;
@@ -69,7 +70,7 @@ of_code = record {
   needs = λ input. tt;
 }
 
-pub of_pack : IsOfTexts Pack
+pub of_pack : IsOfTexts (Read Pack)
 of_pack = record {
   refuses = λ input e short h. (short, h);
   too_long = λ input h. h;

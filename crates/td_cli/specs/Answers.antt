@@ -11,7 +11,8 @@ use Rattle.td_report.specs.Summary.{summary}
 use Rattle.td_print_layout.specs.Definitions.{canonical_text}
 use Rattle.td_code.specs.Compile.{IsListing, IsImageOf}
 use Rattle.td_cli_command.specs.declared.command.Command.{Command}
-use Rattle.td_cli_command.specs.declared.command.Command.TheVariants.{Check as CheckCommand, Tidy as TidyCommand, Code as CodeCommand, Pack as PackCommand, Run as RunCommand, Host as HostCommand, Bench as BenchCommand}
+use Rattle.td_cli_command.specs.declared.command.Command.TheVariants.{Read as ReadCommand, Host as HostCommand, Bench as BenchCommand}
+use Rattle.td_cli_command.specs.declared.command.Reading.TheVariants.{Check as CheckCommand, Tidy as TidyCommand, Code as CodeCommand, Pack as PackCommand, Run as RunCommand}
 use Rattle.td_cli_input.specs.declared.refusal.Refusal.{Refusal}
 use Rattle.td_cli_input.specs.declared.refusal.Refusal.TheVariants.{TooLong, NoJob, BadModule, BadJob, NoRing}
 use Rattle.td_cli.specs.declared.tool.TheConstants.{INPUT_LIMIT}
@@ -64,21 +65,21 @@ IsListingOf input text = (m : Module) × IsModuleText input m × IsListing m tex
 
 -- the command answers the input with this output
 abbrev pub Answers : Command → List ℕ → List ℕ → Type 0
-Answers CheckCommand input output = (length input ≤ INPUT_LIMIT) × IsSummary input output
-Answers TidyCommand input output = (length input ≤ INPUT_LIMIT) × IsTidy input output
-Answers CodeCommand input output = (length input ≤ INPUT_LIMIT) × IsListingOf input output
-Answers PackCommand input output = (length input ≤ INPUT_LIMIT) × IsImageOf input output
-Answers RunCommand input output = (length input ≤ INPUT_LIMIT) × IsReport input output
+Answers (ReadCommand CheckCommand) input output = (length input ≤ INPUT_LIMIT) × IsSummary input output
+Answers (ReadCommand TidyCommand) input output = (length input ≤ INPUT_LIMIT) × IsTidy input output
+Answers (ReadCommand CodeCommand) input output = (length input ≤ INPUT_LIMIT) × IsListingOf input output
+Answers (ReadCommand PackCommand) input output = (length input ≤ INPUT_LIMIT) × IsImageOf input output
+Answers (ReadCommand RunCommand) input output = (length input ≤ INPUT_LIMIT) × IsReport input output
 Answers HostCommand input output = (length input ≤ INPUT_LIMIT) × IsHostReport input output
 Answers (BenchCommand n) input output = IsBench n output
 
 -- the input is one that the command answers
 abbrev pub Admits : Command → List ℕ → Type 0
-Admits CheckCommand input = (length input ≤ INPUT_LIMIT) × (m : Module) × IsModuleText input m
-Admits TidyCommand input = (length input ≤ INPUT_LIMIT) × (m : Module) × IsModuleText input m
-Admits CodeCommand input = (length input ≤ INPUT_LIMIT) × (m : Module) × IsModuleText input m
-Admits PackCommand input = (length input ≤ INPUT_LIMIT) × (m : Module) × IsModuleText input m
-Admits RunCommand input = (length input ≤ INPUT_LIMIT) × (m : Module) × (job : RunJob) × IsRunInput input m job
+Admits (ReadCommand CheckCommand) input = (length input ≤ INPUT_LIMIT) × (m : Module) × IsModuleText input m
+Admits (ReadCommand TidyCommand) input = (length input ≤ INPUT_LIMIT) × (m : Module) × IsModuleText input m
+Admits (ReadCommand CodeCommand) input = (length input ≤ INPUT_LIMIT) × (m : Module) × IsModuleText input m
+Admits (ReadCommand PackCommand) input = (length input ≤ INPUT_LIMIT) × (m : Module) × IsModuleText input m
+Admits (ReadCommand RunCommand) input = (length input ≤ INPUT_LIMIT) × (m : Module) × (job : RunJob) × IsRunInput input m job
 Admits HostCommand input = (length input ≤ INPUT_LIMIT) × (m : Module) × (job : HostJob) × IsHostInput input m job × RingsAreRead job.rings
 Admits (BenchCommand n) input = AdmitsBench n
 
@@ -86,9 +87,9 @@ Admits (BenchCommand n) input = AdmitsBench n
 abbrev pub Refuses : Command → List ℕ → Refusal → Type 0
 Refuses (BenchCommand n) input refusal = RefusesBench n refusal
 Refuses command input TooLong = INPUT_LIMIT < length input
-Refuses CheckCommand input refusal = (length input ≤ INPUT_LIMIT) × RefusesCheck input refusal
-Refuses TidyCommand input refusal = (length input ≤ INPUT_LIMIT) × RefusesCheck input refusal
-Refuses CodeCommand input refusal = (length input ≤ INPUT_LIMIT) × RefusesCheck input refusal
-Refuses PackCommand input refusal = (length input ≤ INPUT_LIMIT) × RefusesCheck input refusal
-Refuses RunCommand input refusal = (length input ≤ INPUT_LIMIT) × RefusesRun input refusal
+Refuses (ReadCommand CheckCommand) input refusal = (length input ≤ INPUT_LIMIT) × RefusesCheck input refusal
+Refuses (ReadCommand TidyCommand) input refusal = (length input ≤ INPUT_LIMIT) × RefusesCheck input refusal
+Refuses (ReadCommand CodeCommand) input refusal = (length input ≤ INPUT_LIMIT) × RefusesCheck input refusal
+Refuses (ReadCommand PackCommand) input refusal = (length input ≤ INPUT_LIMIT) × RefusesCheck input refusal
+Refuses (ReadCommand RunCommand) input refusal = (length input ≤ INPUT_LIMIT) × RefusesRun input refusal
 Refuses HostCommand input refusal = (length input ≤ INPUT_LIMIT) × RefusesServing input refusal

@@ -4,7 +4,8 @@ use Rattle.td_io.specs.States.{SinkState}
 use Rattle.td_cli.specs.declared.status.Status.{Status}
 use Rattle.td_cli.specs.declared.status.Status.TheVariants as at
 use Rattle.td_cli_command.specs.declared.command.Command.{Command}
-use Rattle.td_cli_command.specs.declared.command.Command.TheVariants.{Run, Host}
+use Rattle.td_cli_command.specs.declared.command.Command.TheVariants.{Read, Host}
+use Rattle.td_cli_command.specs.declared.command.Reading.TheVariants.{Run}
 use Rattle.td_cli_input.specs.declared.refusal.Refusal.{Refusal}
 use Rattle.td_cli_input.specs.Marker.{IsFirstMarker}
 use Rattle.td_cli.specs.Answers.{Answers, Admits, Refuses}
@@ -25,7 +26,7 @@ EndsWithLine status line out err result = EndsWith status line err result × out
 
 -- for such an input the command takes memory: `run` and `host` look for the marker first, and take none for that
 abbrev pub NeedsMemory : Command → List ℕ → Type 0
-NeedsMemory Run input = (n : ℕ) × IsFirstMarker input n
+NeedsMemory (Read Run) input = (n : ℕ) × IsFirstMarker input n
 NeedsMemory Host input = (n : ℕ) × IsFirstMarker input n
 NeedsMemory command input = Unit {0}
 

@@ -6,11 +6,6 @@ use Rattle.td_cli_input.specs.declared.refusal.Refusal.{Refusal}
 use Rattle.td_report.specs.Laws.{shown_loads}
 use Rattle.td_cli.specs.Answers.{Answers, Admits, Refuses, IsReport}
 
--- the command answers without others that run at the same time: each but `host`
-abbrev pub IsAlone : Command → Type 0
-IsAlone Host = ⊥
-IsAlone command = Unit {0}
-
 -- the command has one answer to an input: each but `host`, whose report tells a schedule
 abbrev pub HasOneAnswer : Command → Type 0
 HasOneAnswer Host = ⊥

@@ -3,6 +3,7 @@
 ghost use Rattle.std.specs.Prelude.{◌<◌, ◌≤◌, ◌-◌, ◌^◌, length};
 ghost use Rattle.td_front.specs.ModuleText.{IsModuleText};
 ghost use Rattle.td_cli_command.specs.declared.command.Command.TheVariants as commands;
+ghost use Rattle.td_cli_command.specs.declared.command.Reading.TheVariants as readings;
 ghost use Rattle.td_cli.specs.CallEnds.{passage};
 ghost use Rattle.td_cli.specs.InputEnds.{AnswersInput};
 ghost use Rattle.td_cli.specs.Texts.{AnswersText};
@@ -17,7 +18,7 @@ use td_front::check_module;
 use td_io::Sink;
 
 // The module for which an input stands.
-fn check_input(alloc: Global, input: &[u8]) -> Result<Module, InputError>
+fn module_of_input(alloc: Global, input: &[u8]) -> Result<Module, InputError>
     requires { length input.now < 2 ^ 32 - 1 }
     ensures { AnswersText (IsModuleText input.now) input.now result }
 {
@@ -35,10 +36,10 @@ pub(crate) fn answer_check<O: Sink, E: Sink>(
     err: &mut E,
 ) -> Status
     requires { length input.now ≤ INPUT_LIMIT }
-    ensures { AnswersInput commands.Check input.now
+    ensures { AnswersInput (commands.Read readings.Check) input.now
         (passage O.state out.old out.new) (passage E.state err.old err.new) result }
 {
-    match check_input(alloc, input) {
+    match module_of_input(alloc, input) {
         Ok(m) => {
             let status = finish_summary(&m, out);
             drop(m);

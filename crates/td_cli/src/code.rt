@@ -2,6 +2,7 @@
 
 ghost use Rattle.std.specs.Prelude.{◌<◌, ◌≤◌, ◌-◌, ◌^◌, length};
 ghost use Rattle.td_cli_command.specs.declared.command.Command.TheVariants as commands;
+ghost use Rattle.td_cli_command.specs.declared.command.Reading.TheVariants as readings;
 ghost use Rattle.td_cli.specs.Answers.{IsListingOf};
 ghost use Rattle.td_cli.specs.CallEnds.{passage};
 ghost use Rattle.td_cli.specs.InputEnds.{AnswersInput};
@@ -39,7 +40,7 @@ pub(crate) fn answer_code<O: Sink, E: Sink>(
     err: &mut E,
 ) -> Status
     requires { length input.now ≤ INPUT_LIMIT }
-    ensures { AnswersInput commands.Code input.now
+    ensures { AnswersInput (commands.Read readings.Code) input.now
         (passage O.state out.old out.new) (passage E.state err.old err.new) result }
 {
     match code_input(alloc, input) {

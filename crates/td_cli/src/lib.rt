@@ -21,7 +21,7 @@ mod totals;
 
 pub use finish::finish_out_of_memory;
 pub use status::Status;
-pub use td_cli_command::command::{Command, MOST_MESSAGES};
+pub use td_cli_command::command::{Command, MOST_MESSAGES, Reading};
 pub use td_cli_input::refusal::Refusal;
 pub use tool::{INPUT_LIMIT, run_alone, run_hosted, run_tool};
 pub use totals::Totals;

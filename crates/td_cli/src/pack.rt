@@ -3,6 +3,7 @@
 ghost use Rattle.std.specs.Prelude.{◌<◌, ◌≤◌, ◌-◌, ◌^◌, length};
 ghost use Rattle.td_code.specs.Compile.{IsImageOf};
 ghost use Rattle.td_cli_command.specs.declared.command.Command.TheVariants as commands;
+ghost use Rattle.td_cli_command.specs.declared.command.Reading.TheVariants as readings;
 ghost use Rattle.td_cli.specs.CallEnds.{passage};
 ghost use Rattle.td_cli.specs.InputEnds.{AnswersInput};
 ghost use Rattle.td_cli.specs.Texts.{AnswersText};
@@ -39,7 +40,7 @@ pub(crate) fn answer_pack<O: Sink, E: Sink>(
     err: &mut E,
 ) -> Status
     requires { length input.now ≤ INPUT_LIMIT }
-    ensures { AnswersInput commands.Pack input.now
+    ensures { AnswersInput (commands.Read readings.Pack) input.now
         (passage O.state out.old out.new) (passage E.state err.old err.new) result }
 {
     match pack_input(alloc, input) {

@@ -2,6 +2,7 @@
 
 ghost use Rattle.std.specs.Prelude.{◌<◌, ◌≤◌, ◌-◌, ◌^◌, length};
 ghost use Rattle.td_cli_command.specs.declared.command.Command.TheVariants as commands;
+ghost use Rattle.td_cli_command.specs.declared.command.Reading.TheVariants as readings;
 ghost use Rattle.td_cli.specs.Answers.{IsTidy};
 ghost use Rattle.td_cli.specs.CallEnds.{passage};
 ghost use Rattle.td_cli.specs.InputEnds.{AnswersInput};
@@ -39,7 +40,7 @@ pub(crate) fn answer_tidy<O: Sink, E: Sink>(
     err: &mut E,
 ) -> Status
     requires { length input.now ≤ INPUT_LIMIT }
-    ensures { AnswersInput commands.Tidy input.now
+    ensures { AnswersInput (commands.Read readings.Tidy) input.now
         (passage O.state out.old out.new) (passage E.state err.old err.new) result }
 {
     match tidy_input(alloc, input) {

@@ -4,8 +4,7 @@ ghost use Rattle.std.specs.Prelude.{◌≡◌, ◌≢◌, ◌≤◌, ◌⊎◌, 
 ghost use Rattle.td_cli_input.specs.declared.refusal.Refusal.{Refusal};
 ghost use Rattle.td_cli.specs.Answers.{Admits, Refuses};
 ghost use Rattle.td_cli_command.specs.Command.{IsInRange, Means};
-ghost use Rattle.td_cli.specs.CallEnds.{CallEnds, EndsAs, IsHandedOn, Reads, StopsReading, passage};
-ghost use Rattle.td_cli.specs.Laws.{IsAlone};
+ghost use Rattle.td_cli.specs.CallEnds.{CallEnds, EndsAs, IsHandedOn, StopsReading, passage};
 ghost use Rattle.td_cli.specs.InputEnds.{AnswersInput};
 
 use crate::bench::answer_bench;
@@ -21,59 +20,52 @@ use crate::tidy::answer_tidy;
 use std::alloc::{AllocGlobal, Global};
 use std::sync::Wait;
 use std::thread::Threads;
-use td_cli_command::command::{Command, command_of};
+use td_cli_command::command::{Command, Reading, command_of};
 use td_cli_host::gates::GATES_OF_EACH;
 use td_io::{Sink, Source, read_whole};
 use td_live::gate::Gate;
 
 /// How many bytes an input has at most: 4 MiB.
-pub const INPUT_LIMIT: usize = 4_194_304;
+pub const INPUT_LIMIT: usize = td_core::limits::MOST_INPUT;
 
-// Answers an input that was read, for a command that reads one. For `run` there may be no memory only where the input has a
-// marker.
+// Answers an input that was read. For `run` there may be no memory only where the input has a marker.
 fn answer_input<O: Sink, E: Sink>(
     alloc: Global,
-    command: Command,
+    reading: Reading,
     input: &[u8],
     out: &mut O,
     err: &mut E,
 ) -> Status
-    requires reads { Reads command }
-    requires alone { IsAlone command }
-    requires short { length input.now ≤ INPUT_LIMIT }
-    ensures { AnswersInput command input.now
+    requires { length input.now ≤ INPUT_LIMIT }
+    ensures { AnswersInput (Command.Read reading) input.now
         (passage O.state out.old out.new) (passage E.state err.old err.new) result }
 {
-    match command {
-        Command::Check => answer_check(alloc, input, out, err),
-        Command::Tidy => answer_tidy(alloc, input, out, err),
-        Command::Code => answer_code(alloc, input, out, err),
-        Command::Pack => answer_pack(alloc, input, out, err),
-        Command::Run => answer_run(alloc, input, out, err),
-        Command::Host => unreachable!(),
-        Command::Bench(_) => unreachable!(),
+    match reading {
+        Reading::Check => answer_check(alloc, input, out, err),
+        Reading::Tidy => answer_tidy(alloc, input, out, err),
+        Reading::Code => answer_code(alloc, input, out, err),
+        Reading::Pack => answer_pack(alloc, input, out, err),
+        Reading::Run => answer_run(alloc, input, out, err),
     }
 }
 
 // Reads the source and answers its input.
 fn answer_source<S: Source, O: Sink, E: Sink>(
     alloc: Global,
-    command: Command,
+    reading: Reading,
     src: &mut S,
     out: &mut O,
     err: &mut E,
 ) -> Status
-    requires reads { Reads command }
-    requires alone { IsAlone command }
-    ensures ends { (words : List (List ℕ)) → Means words command →
+    ensures ends { (words : List (List ℕ)) → Means words (Command.Read reading) →
         EndsAs result words (passage S.state src.old src.new) (passage O.state out.old out.new) (passage E.state err.old err.new) }
     ensures usage { result ≢ Status.Usage }
-    ensures good { (input : List ℕ) → (S.state src.old).left ≡ Some input → Admits command input → result ≢ Status.Refused }
-    ensures bad { (input : List ℕ) (refusal : Refusal) → (S.state src.old).left ≡ Some input → Refuses command input refusal → result ≢ Status.Done }
+    ensures good { (input : List ℕ) → (S.state src.old).left ≡ Some input → Admits (Command.Read reading) input → result ≢ Status.Refused }
+    ensures bad { (input : List ℕ) (refusal : Refusal) → (S.state src.old).left ≡ Some input → Refuses (Command.Read reading) input refusal → result ≢ Status.Done }
     ensures taken { StopsReading (passage S.state src.old src.new) }
 {
     match read_whole(alloc, src, INPUT_LIMIT) {
-        Ok(input) => answer_input(alloc, command, &input, out, err),
+        Ok(input) => answer_input(alloc, reading, &input, out, err),
         Err(error) => finish_unread(error, err),
     }
 }
@@ -116,11 +108,7 @@ fn answer_command<S: Source, O: Sink, E: Sink>(
     ensures host { command ≡ Command.Host → result ≡ None }
 {
     match command {
-        Command::Check => Some(answer_source(alloc, Command::Check, src, out, err)),
-        Command::Tidy => Some(answer_source(alloc, Command::Tidy, src, out, err)),
-        Command::Code => Some(answer_source(alloc, Command::Code, src, out, err)),
-        Command::Pack => Some(answer_source(alloc, Command::Pack, src, out, err)),
-        Command::Run => Some(answer_source(alloc, Command::Run, src, out, err)),
+        Command::Read(reading) => Some(answer_source(alloc, reading, src, out, err)),
         Command::Host => None,
         Command::Bench(n) => Some(answer_bench(alloc, n, out, err)),
     }

@@ -17,7 +17,8 @@ use Rattle.clap.specs.declared.builder.command.Command.TheViews.{out-Command}
 use Rattle.clap.specs.declared.parser.matches.SubCommand.{SubCommand}
 use Rattle.clap.specs.declared.parser.matches.ArgMatches.TheViews.{out-ArgMatches, out-SubCommand}
 use Rattle.td_cli_command.specs.declared.command.Command.{Command as ToolCommand}
-use Rattle.td_cli_command.specs.declared.command.Command.TheVariants.{Check, Tidy, Run, Host, Code, Pack, Bench}
+use Rattle.td_cli_command.specs.declared.command.Command.TheVariants.{Read, Host, Bench}
+use Rattle.td_cli_command.specs.declared.command.Reading.TheVariants.{Check, Tidy, Run, Code, Pack}
 use Rattle.td_cli_command.specs.declared.command.TheConstants.{MOST_MESSAGES}
 use Rattle.td_cli_command.specs.Command.{Found, Is, Fits, IsNamed, bench}
 use Rattle.td_cli_command.proofs.OneCommand.{same_some, one_decimal}
@@ -95,11 +96,11 @@ other_count count found other n as_bench = other as_bench.1.0
 -- the command by its name and number is the one of the matches
 pub fits_is : (count : ℕ) (rows : Found) (name : Option (List ℕ)) (number : Option ℕ) (found : Option ToolCommand) → option_map (λ f. f.0) rows ≡ name
     → MatchOption number ((n : ℕ) → Is count rows (Bench n) → ⊥) (λ n. Is count rows (Bench n)) → IsNamed name number found → IsFound count rows found
-fits_is count rows name number (Some Check) same has h = (same ∙ h, tt)
-fits_is count rows name number (Some Tidy) same has h = (same ∙ h, tt)
-fits_is count rows name number (Some Code) same has h = (same ∙ h, tt)
-fits_is count rows name number (Some Pack) same has h = (same ∙ h, tt)
-fits_is count rows name number (Some Run) same has h = (same ∙ h, tt)
+fits_is count rows name number (Some (Read Check)) same has h = (same ∙ h, tt)
+fits_is count rows name number (Some (Read Tidy)) same has h = (same ∙ h, tt)
+fits_is count rows name number (Some (Read Code)) same has h = (same ∙ h, tt)
+fits_is count rows name number (Some (Read Pack)) same has h = (same ∙ h, tt)
+fits_is count rows name number (Some (Read Run)) same has h = (same ∙ h, tt)
 fits_is count rows name number (Some Host) same has h = (same ∙ h, tt)
 fits_is count rows name None (Some (Bench n)) same has h = absurd (none_some n h.1)
   where
@@ -115,11 +116,11 @@ fits_is count rows name number None same has h = λ command is. refused command 
         h (Bench n) (sym same ∙ is.0, ap Some (one_decimal k n has.1.3 is.1.3 texts))
 
     refused : (command : ToolCommand) → Is count rows command → ⊥
-    refused Check is = h Check (sym same ∙ is.0)
-    refused Tidy is = h Tidy (sym same ∙ is.0)
-    refused Code is = h Code (sym same ∙ is.0)
-    refused Pack is = h Pack (sym same ∙ is.0)
-    refused Run is = h Run (sym same ∙ is.0)
+    refused (Read Check) is = h (Read Check) (sym same ∙ is.0)
+    refused (Read Tidy) is = h (Read Tidy) (sym same ∙ is.0)
+    refused (Read Code) is = h (Read Code) (sym same ∙ is.0)
+    refused (Read Pack) is = h (Read Pack) (sym same ∙ is.0)
+    refused (Read Run) is = h (Read Run) (sym same ∙ is.0)
     refused Host is = h Host (sym same ∙ is.0)
     refused (Bench n) is = bench_refused number has h n is
 

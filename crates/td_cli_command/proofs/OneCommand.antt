@@ -5,7 +5,8 @@ use Rattle.std.specs.Fmt.{decimal}
 use Rattle.std.specs.Str.Parse.{digits_value}
 use Rattle.std.proofs.lemmas.Fmt.{decimal_is_IsNumeral}
 use Rattle.td_cli_command.specs.declared.command.Command.{Command}
-use Rattle.td_cli_command.specs.declared.command.Command.TheVariants.{Check, Tidy, Run, Host, Code, Pack, Bench}
+use Rattle.td_cli_command.specs.declared.command.Command.TheVariants.{Read, Host, Bench}
+use Rattle.td_cli_command.specs.declared.command.Reading.TheVariants.{Check, Tidy, Run, Code, Pack}
 use Rattle.td_cli_command.specs.declared.command.TheConstants.{MOST_MESSAGES}
 use Rattle.td_cli_command.specs.Command.{Means, IsInRange, name_of}
 
@@ -14,13 +15,13 @@ same_some a b e = cc
 
 -- the command of a name that begins with a `c`, by its second byte
 by_second : List ℕ → Command
-by_second [] = Check
-by_second (b ∷ rest) = if b == 111 then Code else Check
+by_second [] = Read Check
+by_second (b ∷ rest) = if b == 111 then Read Code else Read Check
 
 -- the command of a name, by its first byte, with a number for `bench`
 of_name : List ℕ → ℕ → Command
-of_name [] n = Check
-of_name (b ∷ rest) n = if b == 116 then Tidy else if b == 114 then Run else if b == 104 then Host else if b == 98 then Bench n else if b == 112 then Pack else by_second rest
+of_name [] n = Read Check
+of_name (b ∷ rest) n = if b == 116 then Read Tidy else if b == 114 then Read Run else if b == 104 then Host else if b == 98 then Bench n else if b == 112 then Read Pack else by_second rest
 
 number_in : Command → ℕ
 number_in (Bench n) = n
@@ -28,11 +29,11 @@ number_in command = 0
 
 named : (c : Command) → of_name (name_of c) (number_in c) ≡ c
 unfolding of_name by_second number_in
-named Check = refl
-named Tidy = refl
-named Code = refl
-named Pack = refl
-named Run = refl
+named (Read Check) = refl
+named (Read Tidy) = refl
+named (Read Code) = refl
+named (Read Pack) = refl
+named (Read Run) = refl
 named Host = refl
 named (Bench n) = refl
 
@@ -40,23 +41,23 @@ named (Bench n) = refl
 by_name : (a b : Command) → ((n : ℕ) → of_name (name_of a) n ≡ a) → name_of a ≡ name_of b → a ≡ b
 by_name a b known same = sym (known (number_in b)) ∙ ap (λ (name : List ℕ). of_name name (number_in b)) same ∙ named b
 
-known_check : (n : ℕ) → of_name (name_of Check) n ≡ Check
+known_check : (n : ℕ) → of_name (name_of (Read Check)) n ≡ Read Check
 unfolding of_name by_second
 known_check n = refl
 
-known_tidy : (n : ℕ) → of_name (name_of Tidy) n ≡ Tidy
+known_tidy : (n : ℕ) → of_name (name_of (Read Tidy)) n ≡ Read Tidy
 unfolding of_name by_second
 known_tidy n = refl
 
-known_code : (n : ℕ) → of_name (name_of Code) n ≡ Code
+known_code : (n : ℕ) → of_name (name_of (Read Code)) n ≡ Read Code
 unfolding of_name by_second
 known_code n = refl
 
-known_pack : (n : ℕ) → of_name (name_of Pack) n ≡ Pack
+known_pack : (n : ℕ) → of_name (name_of (Read Pack)) n ≡ Read Pack
 unfolding of_name by_second
 known_pack n = refl
 
-known_run : (n : ℕ) → of_name (name_of Run) n ≡ Run
+known_run : (n : ℕ) → of_name (name_of (Read Run)) n ≡ Read Run
 unfolding of_name by_second
 known_run n = refl
 
@@ -76,27 +77,23 @@ one_decimal m n few small same =
 
 -- words mean one command
 pub one_command : (words : List (List ℕ)) (a b : Command) → Means words a → Means words b → a ≡ b
-one_command words Check b one two = by_name Check b known_check (same_name words Check b one two)
-one_command words Tidy b one two = by_name Tidy b known_tidy (same_name words Tidy b one two)
-one_command words Code b one two = by_name Code b known_code (same_name words Code b one two)
-one_command words Pack b one two = by_name Pack b known_pack (same_name words Pack b one two)
-one_command words Run b one two = by_name Run b known_run (same_name words Run b one two)
+one_command words (Read Check) b one two = by_name (Read Check) b known_check (same_name words (Read Check) b one two)
+one_command words (Read Tidy) b one two = by_name (Read Tidy) b known_tidy (same_name words (Read Tidy) b one two)
+one_command words (Read Code) b one two = by_name (Read Code) b known_code (same_name words (Read Code) b one two)
+one_command words (Read Pack) b one two = by_name (Read Pack) b known_pack (same_name words (Read Pack) b one two)
+one_command words (Read Run) b one two = by_name (Read Run) b known_run (same_name words (Read Run) b one two)
 one_command words Host b one two = by_name Host b known_host (same_name words Host b one two)
-one_command words (Bench n) Check one two = sym (by_name Check (Bench n) known_check (same_name words Check (Bench n) two one))
-one_command words (Bench n) Tidy one two = sym (by_name Tidy (Bench n) known_tidy (same_name words Tidy (Bench n) two one))
-one_command words (Bench n) Code one two = sym (by_name Code (Bench n) known_code (same_name words Code (Bench n) two one))
-one_command words (Bench n) Pack one two = sym (by_name Pack (Bench n) known_pack (same_name words Pack (Bench n) two one))
-one_command words (Bench n) Run one two = sym (by_name Run (Bench n) known_run (same_name words Run (Bench n) two one))
+one_command words (Bench n) (Read Check) one two = sym (by_name (Read Check) (Bench n) known_check (same_name words (Read Check) (Bench n) two one))
+one_command words (Bench n) (Read Tidy) one two = sym (by_name (Read Tidy) (Bench n) known_tidy (same_name words (Read Tidy) (Bench n) two one))
+one_command words (Bench n) (Read Code) one two = sym (by_name (Read Code) (Bench n) known_code (same_name words (Read Code) (Bench n) two one))
+one_command words (Bench n) (Read Pack) one two = sym (by_name (Read Pack) (Bench n) known_pack (same_name words (Read Pack) (Bench n) two one))
+one_command words (Bench n) (Read Run) one two = sym (by_name (Read Run) (Bench n) known_run (same_name words (Read Run) (Bench n) two one))
 one_command words (Bench n) Host one two = sym (by_name Host (Bench n) known_host (same_name words Host (Bench n) two one))
 one_command words (Bench n) (Bench m) one two =
     let texts : decimal n ≡ decimal m = same_some (decimal n) (decimal m) (sym one.1.1.1 ∙ two.1.1.1) in
     ap Bench (one_decimal n m one.1.1.3 two.1.1.3 texts)
 
 pub in_range : (words : List (List ℕ)) (command : Command) → Means words command → IsInRange command
-in_range words Check means = tt
-in_range words Tidy means = tt
-in_range words Code means = tt
-in_range words Pack means = tt
-in_range words Run means = tt
+in_range words (Read reading) means = tt
 in_range words Host means = tt
 in_range words (Bench n) means = means.1.1.3

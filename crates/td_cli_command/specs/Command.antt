@@ -5,16 +5,17 @@ use Rattle.clap.specs.Walk.{Row, first_of}
 use Rattle.clap.specs.declared.builder.action.ArgAction.TheVariants.{Set}
 use Rattle.clap.specs.Faults.{fault_of}
 use Rattle.td_cli_command.specs.declared.command.Command.{Command}
-use Rattle.td_cli_command.specs.declared.command.Command.TheVariants.{Check, Tidy, Run, Host, Code, Pack, Bench}
+use Rattle.td_cli_command.specs.declared.command.Command.TheVariants.{Read, Host, Bench}
+use Rattle.td_cli_command.specs.declared.command.Reading.TheVariants.{Check, Tidy, Run, Code, Pack}
 use Rattle.td_cli_command.specs.declared.command.TheConstants.{MOST_MESSAGES}
 
 abbrev pub name_of : Command → List ℕ
-name_of Check = codes "check"
-name_of Tidy = codes "tidy"
-name_of Run = codes "run"
+name_of (Read Check) = codes "check"
+name_of (Read Tidy) = codes "tidy"
+name_of (Read Run) = codes "run"
 name_of Host = codes "host"
-name_of Code = codes "code"
-name_of Pack = codes "pack"
+name_of (Read Code) = codes "code"
+name_of (Read Pack) = codes "pack"
 name_of (Bench n) = codes "bench"
 
 -- what `clap` found: a command's name, and the values of its arguments

@@ -11,21 +11,28 @@ use clap::{Arg, ArgAction, ArgMatches};
 use itoa::Buffer;
 use std::alloc::{AllocError, Global};
 
-/// What the tool is to do.
+/// What is to be done with an input that is read, without waiting for anybody.
 #[derive(Clone, Copy, PartialEq, Eq)]
-pub enum Command {
+pub enum Reading {
     /// Tells whether a module text is accepted, and what it has.
     Check,
     /// Writes the canonical text of a module text that is accepted.
     Tidy,
     /// Validates the message of a job by its module, while others store to its words, and reports it.
     Run,
-    /// Serves the posts of a job's guests by its module, while they go on storing, and reports the replies.
-    Host,
     /// Writes the listing of the code of a module text that is accepted.
     Code,
     /// Writes the image of the code of a module text that is accepted.
     Pack,
+}
+
+/// What the tool is to do.
+#[derive(Clone, Copy, PartialEq, Eq)]
+pub enum Command {
+    /// Answers an input, alone.
+    Read(Reading),
+    /// Serves the posts of a job's guests by its module, while they go on storing, and reports the replies.
+    Host,
     /// Runs so many messages of the generator, and tells how many were accepted, up to which bytes, and by how many loads.
     Bench(u32),
 }
@@ -94,12 +101,12 @@ fn named_command(name: Option<&str>, number: Option<u32>) -> Option<Command>
     ensures { IsNamed (option_map (λ text. text.now) name.entry) number result }
 {
     match name {
-        Some("check") => Some(Command::Check),
-        Some("tidy") => Some(Command::Tidy),
-        Some("run") => Some(Command::Run),
+        Some("check") => Some(Command::Read(Reading::Check)),
+        Some("tidy") => Some(Command::Read(Reading::Tidy)),
+        Some("run") => Some(Command::Read(Reading::Run)),
         Some("host") => Some(Command::Host),
-        Some("code") => Some(Command::Code),
-        Some("pack") => Some(Command::Pack),
+        Some("code") => Some(Command::Read(Reading::Code)),
+        Some("pack") => Some(Command::Read(Reading::Pack)),
         Some("bench") => match number {
             Some(number) => Some(Command::Bench(number)),
             None => None,

@@ -5,7 +5,7 @@ ghost use Rattle.std.specs.Prelude.{◌≡◌, ◌+◌, ◌*◌, ◌≤◌, ◌+
 use std::alloc::AllocError;
 
 /// How many gates there are for workers, and how many for guests after them.
-pub const GATES_OF_EACH: usize = 16;
+pub const GATES_OF_EACH: usize = td_posts::limits::MOST_WORKERS as usize;
 
 /// The first gates of each half, so many of the workers' and then so many of the guests'. `AllocError`: there was no memory.
 pub fn gates_of<G: Drop>(gates: Vec<G>, workers: usize, guests: usize) -> Result<Vec<G>, AllocError>

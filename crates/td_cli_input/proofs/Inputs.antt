@@ -1,11 +1,9 @@
 -- What the first marker of an input, and what is known of its two parts, say of the whole. Cited by other crates.
 use Rattle.std.proofs.Common.{◌≡◌, ◌⊎◌, inl, inr, ℕ, List, subst, sym, ap, Result, Ok, Err}
 use Rattle.std.proofs.lemmas.Bool.{cases_order}
-use Rattle.td_core.specs.declared.module.Module.{Module}
-use Rattle.td_front.specs.declared.error.FrontError.{FrontError}
+use Rattle.td_cli_input.specs.Imports.{Module, FrontError, JobError}
 use Rattle.td_front.specs.declared.error.FrontError.TheVariants as front
 use Rattle.td_front.specs.ModuleText.{IsModuleText, RefusedBy}
-use Rattle.td_job.specs.declared.error.JobError.{JobError}
 use Rattle.td_job.specs.declared.error.JobError.TheVariants as jobs
 use Rattle.td_cli_input.specs.declared.refusal.Refusal.{Refusal}
 use Rattle.td_cli_input.specs.declared.refusal.Refusal.TheVariants.{TooLong, NoJob, BadModule, BadJob, NoRing}

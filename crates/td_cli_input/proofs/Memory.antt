@@ -1,8 +1,7 @@
 -- Where memory may be lacking: an input has a marker, and one of its parts is no white space.
 use Rattle.std.proofs.Common.{◌≡◌, refl}
-use Rattle.td_front.specs.declared.error.FrontError.{FrontError}
+use Rattle.td_cli_input.specs.Imports.{FrontError, JobError}
 use Rattle.td_front.specs.declared.error.FrontError.TheVariants as front
-use Rattle.td_job.specs.declared.error.JobError.{JobError}
 use Rattle.td_job.specs.declared.error.JobError.TheVariants as jobs
 use Rattle.td_cli_input.specs.declared.refusal.InputError.{InputError}
 use Rattle.td_cli_input.specs.declared.refusal.InputError.TheVariants.{NoMemory}

@@ -1,9 +1,8 @@
 -- Why an input has no answer.
 use Rattle.std.specs.Prelude.{◌⊎◌, ℕ, ◌<◌, List, length}
 use Rattle.td_lexer.specs.Splits.{HasToken}
-use Rattle.td_front.specs.declared.error.FrontError.{FrontError}
+use Rattle.td_cli_input.specs.Imports.{FrontError, JobError}
 use Rattle.td_front.specs.declared.error.FrontError.TheVariants as front
-use Rattle.td_job.specs.declared.error.JobError.{JobError}
 use Rattle.td_job.specs.declared.error.JobError.TheVariants as jobs
 use Rattle.td_cli_input.specs.declared.refusal.Refusal.{Refusal}
 use Rattle.td_cli_input.specs.declared.refusal.Refusal.TheVariants.{BadModule, BadJob}

@@ -3,14 +3,11 @@ use Rattle.std.specs.Prelude.{◌≡◌, ℕ, ◌<◌, ◌^◌, List, length}
 use Rattle.td_num.specs.Lists.{AreBytes}
 use Rattle.td_core.specs.Entries.{entry_definition}
 use Rattle.td_core.specs.Formed.{AllFit, params_at, cells_at}
-use Rattle.td_core.specs.declared.module.Module.{Module}
+use Rattle.td_cli_input.specs.Imports.{Module, JobError, RunJob, HostJob}
 use Rattle.td_core.specs.declared.module.Entry.{Entry}
 use Rattle.td_meaning.specs.Copies.{IsSoundOn, IsSoundFrom}
 use Rattle.td_front.specs.ModuleText.{IsModuleText, RefusedBy}
-use Rattle.td_job.specs.declared.error.JobError.{JobError}
-use Rattle.td_job.specs.declared.run_job.RunJob.{RunJob}
 use Rattle.td_job.specs.Jobs.{IsRunJob, RefusedJob}
-use Rattle.td_posts.specs.declared.job.HostJob.{HostJob}
 use Rattle.td_posts.specs.Posts.{IsVersion, zeros}
 use Rattle.td_job_host.specs.HostJobs.{rooms_in, IsHostJob, RefusedHostJob}
 use Rattle.td_cli_input.specs.declared.refusal.Refusal.{Refusal}

@@ -1,3 +1,4 @@
+pub mod Imports
 pub mod Marker
 pub mod Causes
 pub mod Inputs

@@ -2,8 +2,7 @@
 
 ghost use Rattle.std.specs.Prelude.{◌≡◌, ◌<◌, ◌^◌, ◌-◌, ℕ, Err, Some, length, slice_get, IfOk, IfErr, IsErr, IsErrOf};
 ghost use Rattle.std.specs.List.{All};
-ghost use Rattle.td_core.specs.declared.module.Module.{Module};
-ghost use Rattle.td_posts.specs.declared.job.HostJob.{HostJob};
+ghost use Rattle.td_cli_input.specs.Imports.{Module, HostJob};
 ghost use Rattle.td_posts.specs.Servable.{IsServable};
 ghost use Rattle.td_cli_input.specs.declared.refusal.Refusal.{Refusal};
 ghost use Rattle.td_cli_input.specs.Causes.{HasCause, HasParts};

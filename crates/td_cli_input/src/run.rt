@@ -1,8 +1,7 @@
 //! The module and the run job of an input, or why it has none.
 
 ghost use Rattle.std.specs.Prelude.{◌≡◌, ◌<◌, ◌^◌, ◌-◌, ℕ, Err, length, IfOk, IfErr, IsErr, IsErrOf};
-ghost use Rattle.td_core.specs.declared.module.Module.{Module};
-ghost use Rattle.td_job.specs.declared.run_job.RunJob.{RunJob};
+ghost use Rattle.td_cli_input.specs.Imports.{Module, RunJob};
 ghost use Rattle.td_job.specs.Jobs.{HasRoom};
 ghost use Rattle.td_cli_input.specs.declared.refusal.Refusal.{Refusal};
 ghost use Rattle.td_cli_input.specs.Causes.{HasCause, HasParts};

@@ -28,7 +28,7 @@ fn is_marker(input: &[u8], n: usize) -> bool
 }
 
 /// The place of the first line that is exactly `%%`: its first byte, from 0. None where no line is.
-pub fn find_marker(input: &[u8]) -> Option<usize>
+pub(crate) fn find_marker(input: &[u8]) -> Option<usize>
     ensures { MatchOption result ((n : ℕ) → IsMarker input.now n → ⊥) (IsFirstMarker input.now) }
 {
     for n in 0..input.len() {
@@ -40,7 +40,7 @@ pub fn find_marker(input: &[u8]) -> Option<usize>
 }
 
 /// The module text of an input whose marker stands at n: the bytes before it.
-pub fn module_part(input: &[u8], n: usize) -> &[u8]
+pub(crate) fn module_part(input: &[u8], n: usize) -> &[u8]
     requires { n ≤ length input.now }
     ensures { result.now ≡ module_part input.now n }
 {
@@ -48,7 +48,7 @@ pub fn module_part(input: &[u8], n: usize) -> &[u8]
 }
 
 /// The job of an input whose marker stands at n: the bytes after its line.
-pub fn job_part(input: &[u8], n: usize) -> &[u8]
+pub(crate) fn job_part(input: &[u8], n: usize) -> &[u8]
     requires { n < length input.now }
     ensures { result.now ≡ job_part input.now n }
 {

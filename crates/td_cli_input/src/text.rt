@@ -1,7 +1,7 @@
 //! The module text of an input: the bytes before its marker.
 
 ghost use Rattle.std.specs.Prelude.{◌≡◌, ◌<◌, ◌^◌, ◌-◌, ℕ, Err, length, MatchResult, IfOk, IfErr, IsErr, IsErrOf};
-ghost use Rattle.td_core.specs.declared.module.Module.{Module};
+ghost use Rattle.td_cli_input.specs.Imports.{Module};
 ghost use Rattle.td_front.specs.Checked.{IsChecked};
 ghost use Rattle.td_front.specs.ModuleText.{IsModuleText};
 ghost use Rattle.td_cli_input.specs.declared.refusal.Refusal.{Refusal};

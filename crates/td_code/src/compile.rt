@@ -21,6 +21,20 @@ use td_num::text::Text;
 use td_verify::verify::Verified;
 
 /// The code of a module. `AllocError`: there was no memory for it.
+///
+/// A text's code, ready for `Frame::arm`:
+///
+/// ```
+/// use std::alloc::Global;
+/// use td_code::code_of;
+/// use td_front::{FrontError, check_module};
+/// use td_verify::Verified;
+///
+/// fn pair(alloc: Global) -> Result<Verified, FrontError> {
+///     let module = check_module(alloc, b"entrypoint typedef struct _P { UINT8 a; UINT8 b; } P;")?;
+///     code_of(alloc, &module).map_err(|_| FrontError::NoMemory)
+/// }
+/// ```
 pub fn code_of(alloc: Global, m: &Module) -> Result<Verified, AllocError>
     requires { IsChecked m.now }
     ensures written { IfOk result (λ code. IsWritten code m.now) }

@@ -7,7 +7,7 @@ use Rattle.td_core.specs.declared.expressions.Relation.TheVariants.{Equal, NotEq
 use Rattle.td_core.specs.declared.expressions.Scalar.{Scalar}
 use Rattle.td_core.specs.declared.expressions.Scalar.TheVariants.{Truth, Eight, Sixteen, ThirtyTwo, SixtyFour}
 use Rattle.td_core.specs.declared.expressions.Binary.{Binary}
-use Rattle.td_core.specs.declared.expressions.Binary.TheVariants.{Plus, Minus, Times, Over, Modulo, BitAnd, BitOr, BitXor, ShiftLeft, ShiftRight}
+use Rattle.td_core.specs.declared.expressions.Binary.TheVariants.{Add, Subtract, Multiply, Divide, Remainder, BitAnd, BitOr, BitXor, ShiftLeft, ShiftRight}
 use Rattle.td_core.specs.Term.{Term, number, name, complement, negation, compute, compare, both, either, choice, range_okay, Deed, done, set, keep, fork, answer, give_up}
 
 abbrev scalar_number : Scalar → ℕ
@@ -32,11 +32,11 @@ scalar_back ThirtyTwo = refl
 scalar_back SixtyFour = refl
 
 abbrev binary_number : Binary → ℕ
-binary_number Plus = 0
-binary_number Minus = 1
-binary_number Times = 2
-binary_number Over = 3
-binary_number Modulo = 4
+binary_number Add = 0
+binary_number Subtract = 1
+binary_number Multiply = 2
+binary_number Divide = 3
+binary_number Remainder = 4
 binary_number BitAnd = 5
 binary_number BitOr = 6
 binary_number BitXor = 7
@@ -44,11 +44,11 @@ binary_number ShiftLeft = 8
 binary_number ShiftRight = 9
 
 abbrev binary_at : ℕ → Binary
-binary_at zero = Plus
-binary_at (suc zero) = Minus
-binary_at (suc (suc zero)) = Times
-binary_at (suc (suc (suc zero))) = Over
-binary_at (suc (suc (suc (suc zero)))) = Modulo
+binary_at zero = Add
+binary_at (suc zero) = Subtract
+binary_at (suc (suc zero)) = Multiply
+binary_at (suc (suc (suc zero))) = Divide
+binary_at (suc (suc (suc (suc zero)))) = Remainder
 binary_at (suc (suc (suc (suc (suc zero))))) = BitAnd
 binary_at (suc (suc (suc (suc (suc (suc zero)))))) = BitOr
 binary_at (suc (suc (suc (suc (suc (suc (suc zero))))))) = BitXor
@@ -56,11 +56,11 @@ binary_at (suc (suc (suc (suc (suc (suc (suc (suc zero)))))))) = ShiftLeft
 binary_at _ = ShiftRight
 
 binary_back : (op : Binary) → binary_at (binary_number op) ≡ op
-binary_back Plus = refl
-binary_back Minus = refl
-binary_back Times = refl
-binary_back Over = refl
-binary_back Modulo = refl
+binary_back Add = refl
+binary_back Subtract = refl
+binary_back Multiply = refl
+binary_back Divide = refl
+binary_back Remainder = refl
 binary_back BitAnd = refl
 binary_back BitOr = refl
 binary_back BitXor = refl

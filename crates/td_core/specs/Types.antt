@@ -8,7 +8,7 @@ use Rattle.td_core.specs.Term.{Term, number, name, complement, negation, compute
 use Rattle.td_core.specs.declared.expressions.Scalar.{Scalar}
 use Rattle.td_core.specs.declared.expressions.Scalar.TheVariants.{Truth, Eight, Sixteen, ThirtyTwo, SixtyFour}
 use Rattle.td_core.specs.declared.expressions.Binary.{Binary}
-use Rattle.td_core.specs.declared.expressions.Binary.TheVariants.{Plus, Minus, Times, Over, Modulo, BitAnd, BitOr, BitXor, ShiftLeft, ShiftRight}
+use Rattle.td_core.specs.declared.expressions.Binary.TheVariants.{Add, Subtract, Multiply, Divide, Remainder, BitAnd, BitOr, BitXor, ShiftLeft, ShiftRight}
 
 -- a truth value is a number of one bit
 abbrev pub bits : Scalar → ℕ
@@ -27,11 +27,11 @@ wider v w = cond (nat_le (bits v) (bits w)) w v
 
 -- a shift has its left side's type
 abbrev pub computed_type : Binary → Scalar → Scalar → Scalar
-computed_type Plus v w = wider v w
-computed_type Minus v w = wider v w
-computed_type Times v w = wider v w
-computed_type Over v w = wider v w
-computed_type Modulo v w = wider v w
+computed_type Add v w = wider v w
+computed_type Subtract v w = wider v w
+computed_type Multiply v w = wider v w
+computed_type Divide v w = wider v w
+computed_type Remainder v w = wider v w
 computed_type BitAnd v w = wider v w
 computed_type BitOr v w = wider v w
 computed_type BitXor v w = wider v w

@@ -16,11 +16,11 @@ pub enum Scalar {
 /// An operator that computes a number of two.
 #[derive(Clone, Copy, PartialEq, Eq, Debug)]
 pub enum Binary {
-    Plus,
-    Minus,
-    Times,
-    Over,
-    Modulo,
+    Add,
+    Subtract,
+    Multiply,
+    Divide,
+    Remainder,
     BitAnd,
     BitOr,
     BitXor,

@@ -1,6 +1,6 @@
 //! Names that share the names of the parts of a text.
 
-ghost use Rattle.std.specs.Prelude.{◌≡◌, ◌≢◌, ◌≤◌, ◌+◌, ◌-◌, ◌++◌, ℕ, List, ◌↔◌, IsTrue, IfOk, MatchOption, length, min, take, drop};
+ghost use Rattle.std.specs.Prelude.{◌≡◌, ◌≢◌, ◌<◌, ◌≤◌, ◌+◌, ◌-◌, ◌++◌, ℕ, List, ◌↔◌, IsTrue, IfOk, OnErr, MatchOption, length, min, take, drop};
 ghost use Rattle.std.specs.Arc.{arc_value};
 ghost use Rattle.td_core.specs.FullNames.{name_in};
 
@@ -57,9 +57,10 @@ impl FullName {
     }
 
     /// An equal name, which shares the part's name. `AllocError`: there was no memory for it, or 2^63 names share the
-    /// part's name.
+    /// part's name; never for the name of no bytes.
     pub fn copy(&self, alloc: Global) -> Result<FullName, AllocError>
-        ensures { IfOk result (λ copied. copied ≡ self.now) }
+        ensures ok { IfOk result (λ copied. copied ≡ self.now) }
+        ensures memory { OnErr result (0 < length self.now) }
     {
         let own = Text::copy_of(alloc, self.own.as_slice())?;
         match &self.part {

@@ -1,7 +1,7 @@
-//! What a module and its text hold at most: the one home of these ten numbers (own rule). Each but the room of a copy buffer is
-//! refused by td_limits, as X1 at the name of the definition in which it is passed: the first six by count, before names and
-//! types are looked at, the last three by size. The verifier refuses code past two of them; the format of images has numbers of
-//! its own.
+//! What a module and its text, a message, a job and an input hold at most: the one home of these numbers (own rule). Each of the
+//! first ten but the room of a copy buffer is refused by td_limits, as X1 at the name of the definition in which it is passed:
+//! the first six by count, before names and types are looked at, the last three of them by size. The verifier refuses code past two
+//! of the ten; the format of images has numbers of its own.
 
 /// Definitions of a text: X1 `limit definitions`.
 pub const MOST_DEFINITIONS: u64 = 4_000;
@@ -25,3 +25,9 @@ pub const MOST_ROOM: u64 = 65_536;
 pub const MOST_DEPTH: u64 = 32;
 /// The weight of a definition, which bounds how many instructions its code has: X1 `limit weight`. Of a routine: rule V6.
 pub const MOST_WEIGHT: u64 = 1 << 40;
+/// Bytes of a message: of a job's, of a ring's, and of what is written of a value.
+pub const MOST_MESSAGE: u64 = 1_048_576;
+/// Stores of a run job, and of all guests of a host job: J8.
+pub const MOST_STORES: usize = 65_536;
+/// Bytes of the input of a command, and of a text that a program for C packs: 4 MiB, else Z1.
+pub const MOST_INPUT: usize = 4_194_304;

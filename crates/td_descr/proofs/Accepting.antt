@@ -3,16 +3,12 @@ use Rattle.std.proofs.Common.{◌≡◌, ℕ, ◌<◌, ◌^◌, List, length, ta
 use Rattle.std.proofs.lemmas.List.{take_all}
 use Rattle.std.specs.List.{All}
 use Rattle.td_num.specs.Lists.{AreBytes}
-use Rattle.td_core.specs.declared.module.Module.{Module}
-use Rattle.td_core.specs.declared.outcome.Outcome.{Outcome}
+use Rattle.td_descr.specs.Imports.{Module, Outcome, Load, Stretch, Parts}
 use Rattle.td_core.specs.Outcome.{Ending, Accepted, Rejected, outcome_of}
 use Rattle.td_meaning.specs.Meaning.{meaning}
 use Rattle.td_meaning.specs.Throughout.{OnEnding}
-use Rattle.td_stream.specs.declared.load.Load.{Load}
-use Rattle.td_stream.specs.declared.stretch.Stretch.{Stretch}
 use Rattle.td_stream.specs.Layouts.{plain}
 use Rattle.td_stream.specs.Loads.{Carries, IsRising}
-use Rattle.td_ir.specs.declared.tables.Parts.{Parts}
 use Rattle.td_meaning.specs.Copies.{opened}
 use Rattle.td_meaning.proofs.Copying.{opened_alone}
 use Rattle.td_run.specs.Validation.{IsValidation}

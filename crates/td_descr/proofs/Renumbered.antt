@@ -2,10 +2,8 @@
 use Rattle.std.proofs.Common.{◌≡◌, ℕ, ◌+◌, ◌<◌, List, [], ◌∷◌, sym, subst, arith}
 use Rattle.std.specs.List.{All}
 use Rattle.std.proofs.lemmas.List.Elements.{All-nil, All-cons, All-map, All-weaker}
-use Rattle.td_stream.specs.declared.load.Load.{Load}
+use Rattle.td_descr.specs.Imports.{Load, Outcome, Parts}
 use Rattle.td_stream.specs.Loads.{IsRising, IsNext}
-use Rattle.td_core.specs.declared.outcome.Outcome.{Outcome}
-use Rattle.td_ir.specs.declared.tables.Parts.{Parts}
 use Rattle.td_descr.specs.Words.{load_of, raised}
 use Rattle.td_descr.specs.Ring.{IsValidated}
 

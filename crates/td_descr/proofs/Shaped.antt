@@ -3,30 +3,11 @@ use Rattle.std.proofs.Common.{◌≡◌, ℕ, ◌<◌, ◌≤◌, ◌^◌, Bool,
 use Rattle.std.specs.Prelude.{ℤ, pos, ◌-ℤ◌, int_lt}
 use Rattle.std.proofs.lemmas.Bool.{eqb-true, false≢true}
 use Rattle.td_num.proofs.Truths.{both_true}
-use Rattle.td_num.specs.declared.number.NumberType.{NumberType}
-use Rattle.td_num.specs.declared.number.Width.{Width}
-use Rattle.td_num.specs.declared.number.Width.TheVariants.{One, Two, Four, Eight}
-use Rattle.td_num.specs.declared.number.ByteOrder.{ByteOrder}
-use Rattle.td_num.specs.declared.number.ByteOrder.TheVariants.{LittleEndian, BigEndian}
-use Rattle.td_core.specs.declared.expressions.Relation.TheVariants.{Equal, NotEqual, Less, LessEqual, Greater, GreaterEqual}
-use Rattle.td_core.specs.declared.expressions.Binary.TheVariants.{Plus, Minus, Times, Over, Modulo, BitAnd, BitOr, BitXor, ShiftLeft, ShiftRight}
+use Rattle.td_descr.specs.Imports.{NumberType, Width, One, Two, Four, Eight, ByteOrder, LittleEndian, BigEndian, Equal, NotEqual, Less, LessEqual, Greater, GreaterEqual, Add, Subtract, Multiply, Divide, Remainder, BitAnd, BitOr, BitXor, ShiftLeft, ShiftRight, Element, Extent, Once, Filling, OnceFilling, UpToZero, Bits, Buffer, CopyOut, Part, Field, Param, Cell, Body, Struct, Casetype, TypeDef}
 use Rattle.td_core.specs.Term.{Term, number, name, complement, negation, compute, compare, both, either, choice, range_okay, Deed, done, set, keep, fork, answer, give_up}
-use Rattle.td_core.specs.declared.module.Element.{Element}
 use Rattle.td_core.specs.declared.module.Element.TheVariants as element
-use Rattle.td_core.specs.declared.module.Extent.{Extent}
-use Rattle.td_core.specs.declared.module.Extent.TheVariants.{Once, Filling, OnceFilling, UpToZero}
-use Rattle.td_core.specs.declared.module.Bits.{Bits}
-use Rattle.td_core.specs.declared.module.Buffer.{Buffer}
-use Rattle.td_core.specs.declared.module.CopyOut.{CopyOut}
-use Rattle.td_core.specs.declared.module.Part.{Part}
-use Rattle.td_core.specs.declared.module.Field.{Field}
-use Rattle.td_core.specs.declared.module.Param.{Param}
-use Rattle.td_core.specs.declared.module.Cell.{Cell}
 use Rattle.td_core.specs.Entries.{definition_at}
 use Rattle.td_core.specs.Formed.{AllFit, scalar_of, param_bounds, cell_bounds, params_at, cells_at, whole as bound_of}
-use Rattle.td_core.specs.declared.module.Body.{Body}
-use Rattle.td_core.specs.declared.module.Body.TheVariants.{Struct, Casetype}
-use Rattle.td_core.specs.declared.module.TypeDef.{TypeDef}
 use Rattle.td_core.specs.Outcome.{accepted}
 use Rattle.td_expr.specs.Value.{value_of, natural, number_of, flip, both_of}
 use Rattle.td_meaning.specs.Doing.{doing, On}
@@ -52,15 +33,15 @@ level_value level (choice c a b) env h = absurd (false≢true h)
 level_value level (range_okay s o a) env h = absurd (false≢true h)
 
 rest_value : (e : Term) (env : List ℕ) → is_rest e ≡ true → value_of e env ≡ at env 0 -ℤ at env 2
-rest_value (compute Minus sp a b) env h =
+rest_value (compute Subtract sp a b) env h =
     let both = both_true (is_level 0 a) (is_level 2 b) h in
     let x = level_value 0 a env both.0 in
     let y = level_value 2 b env both.1 in
     λ i. x i -ℤ y i
-rest_value (compute Plus sp a b) env h = absurd (false≢true h)
-rest_value (compute Times sp a b) env h = absurd (false≢true h)
-rest_value (compute Over sp a b) env h = absurd (false≢true h)
-rest_value (compute Modulo sp a b) env h = absurd (false≢true h)
+rest_value (compute Add sp a b) env h = absurd (false≢true h)
+rest_value (compute Multiply sp a b) env h = absurd (false≢true h)
+rest_value (compute Divide sp a b) env h = absurd (false≢true h)
+rest_value (compute Remainder sp a b) env h = absurd (false≢true h)
 rest_value (compute BitAnd sp a b) env h = absurd (false≢true h)
 rest_value (compute BitOr sp a b) env h = absurd (false≢true h)
 rest_value (compute BitXor sp a b) env h = absurd (false≢true h)

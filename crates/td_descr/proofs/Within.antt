@@ -5,14 +5,8 @@ use Rattle.std.proofs.lemmas.Bool.{ltb-false, false≢true}
 use Rattle.td_num.proofs.Truths.{both_true}
 use Rattle.td_num.specs.Numbers.{bytes_in, number_at, places_from}
 use Rattle.td_num.specs.Lists.{AreBytes}
-use Rattle.td_num.specs.declared.number.NumberType.{NumberType}
-use Rattle.td_num.specs.declared.number.Width.{Width}
-use Rattle.td_num.specs.declared.number.Width.TheVariants.{Two, Four}
-use Rattle.td_num.specs.declared.number.ByteOrder.TheVariants.{LittleEndian}
+use Rattle.td_descr.specs.Imports.{NumberType, Width, Two, Four, LittleEndian, NameId, Field, NotEnough, Constraint, Span, TypeDef}
 use Rattle.td_core.specs.Term.{Term, Deed}
-use Rattle.td_core.specs.declared.module.NameId.{NameId}
-use Rattle.td_core.specs.declared.module.Field.{Field}
-use Rattle.td_core.specs.declared.outcome.Reason.TheVariants.{NotEnough, Constraint}
 use Rattle.td_core.specs.Outcome.{accepted, and_then}
 use Rattle.td_expr.specs.Value.{truth_of, number_of, flip, chosen}
 use Rattle.td_expr.proofs.Holding.{truth_number}
@@ -22,8 +16,6 @@ use Rattle.td_meaning.specs.Meaning.{Sense, below, fields_meaning, parts_meaning
 use Rattle.td_meaning.specs.Met.{MetOption}
 use Rattle.td_meaning.specs.Throughout.{OnEnding}
 use Rattle.td_meaning.proofs.Ending.{on_then, on_within, on_demanded}
-use Rattle.td_ast.specs.declared.token.Span.{Span}
-use Rattle.td_core.specs.declared.module.TypeDef.{TypeDef}
 use Rattle.td_meaning.specs.Meaning.{entry_place}
 use Rattle.td_descr.specs.Ring.{desc_args, desc_cells, CellsAreWithin}
 use Rattle.td_descr.specs.Format.{any_field, ring_module}

@@ -1,22 +1,9 @@
 -- The module of descriptors, by hand: RING's text, its names numbered as they are seen first, and no places in a text.
 use Rattle.std.specs.Prelude.{ℕ, [], ◌∷◌, Option, Some, None, codes}
-use Rattle.td_num.specs.declared.number.Width.{Width}
-use Rattle.td_num.specs.declared.number.Width.TheVariants.{Two, Four}
-use Rattle.td_num.specs.declared.number.ByteOrder.TheVariants.{LittleEndian}
+use Rattle.td_descr.specs.Imports.{Width, Two, Four, LittleEndian, Equal, LessEqual, Subtract, NameId, Once, Number as NumberCell, Cell, Field, Struct, TypeDef, Module, Span}
 use Rattle.td_core.specs.declared.expressions.Scalar.TheVariants.{Sixteen, ThirtyTwo}
-use Rattle.td_core.specs.declared.expressions.Relation.TheVariants.{Equal, LessEqual}
-use Rattle.td_core.specs.declared.expressions.Binary.TheVariants.{Minus}
 use Rattle.td_core.specs.Term.{Term, number, name, compare, compute, both, Deed, done, set}
-use Rattle.td_core.specs.declared.module.NameId.{NameId}
 use Rattle.td_core.specs.declared.module.Element.TheVariants.{Number}
-use Rattle.td_core.specs.declared.module.Extent.TheVariants.{Once}
-use Rattle.td_core.specs.declared.module.CellKind.TheVariants.{Number as NumberCell}
-use Rattle.td_core.specs.declared.module.Cell.{Cell}
-use Rattle.td_core.specs.declared.module.Field.{Field}
-use Rattle.td_core.specs.declared.module.Body.TheVariants.{Struct}
-use Rattle.td_core.specs.declared.module.TypeDef.{TypeDef}
-use Rattle.td_core.specs.declared.module.Module.{Module}
-use Rattle.td_ast.specs.declared.token.Span.{Span}
 
 abbrev pub id : ℕ → NameId
 id n = record { number = n }
@@ -53,7 +40,7 @@ abbrev pub place_test : Option Term
 place_test = Some (compare LessEqual place_name room_name)
 
 abbrev pub size_test : Option Term
-size_test = Some (both (compare LessEqual size_name (compute Minus nowhere room_name place_name)) (compare LessEqual size_name most_name))
+size_test = Some (both (compare LessEqual size_name (compute Subtract nowhere room_name place_name)) (compare LessEqual size_name most_name))
 
 abbrev pub flags_test : Option Term
 flags_test = Some (compare Equal (name 5 Sixteen 65535) (number 0 Sixteen))

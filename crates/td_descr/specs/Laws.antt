@@ -1,7 +1,7 @@
 -- What the laws of rings say.
 use Rattle.std.specs.Prelude.{◌≡◌, ℕ, true, List, [], ◌∷◌}
 use Rattle.td_num.specs.Lists.{AreBytes}
-use Rattle.td_core.specs.declared.outcome.Reason.TheVariants.{Constraint}
+use Rattle.td_descr.specs.Imports.{Constraint}
 use Rattle.td_core.specs.declared.outcome.Spot.TheVariants.{Field}
 use Rattle.td_core.specs.Outcome.{Behavior, Accepted, Rejected}
 use Rattle.td_meaning.specs.Meaning.{meaning}

@@ -1,3 +1,4 @@
+pub mod Imports
 pub mod Words
 pub mod Ring
 pub mod Format

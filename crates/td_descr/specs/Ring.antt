@@ -2,19 +2,15 @@
 -- its entries, each a descriptor of two words. Descriptor n, from 0, stands in entry n modulo their number.
 use Rattle.std.specs.Prelude.{◌≡◌, ℕ, ◌+◌, ◌*◌, ◌-◌, ◌%◌, ◌<◌, ◌≤◌, ◌^◌, cond, nat_eq, nat_lt, ◌||◌, List, [], ◌∷◌, length, slice_index, Some, None}
 use Rattle.td_num.specs.Lists.{AreBytes}
-use Rattle.td_core.specs.declared.module.Module.{Module}
+use Rattle.td_descr.specs.Imports.{Module, Outcome, Verdict, Load, Parts}
 use Rattle.td_core.specs.declared.module.Entry.{Entry}
-use Rattle.td_core.specs.declared.outcome.Outcome.{Outcome}
-use Rattle.td_core.specs.declared.outcome.Verdict.{Verdict}
 use Rattle.td_core.specs.declared.outcome.Verdict.TheVariants.{Accept, Reject}
 use Rattle.td_meaning.specs.Meaning.{meaning}
 use Rattle.td_core.specs.Entries.{entry_definition}
 use Rattle.td_meaning.specs.Copies.{buffers_at, IsSoundOn as IsSound}
 use Rattle.td_meaning.specs.Throughout.{OnEnding}
-use Rattle.td_stream.specs.declared.load.Load.{Load}
 use Rattle.td_stream.specs.Layouts.{plain}
 use Rattle.td_fetch.specs.Outcomes.{IsMeant}
-use Rattle.td_ir.specs.declared.tables.Parts.{Parts}
 use Rattle.td_ir.specs.Entries.{Fits}
 use Rattle.td_lower_means.specs.CodeRun.{IsCodeOf}
 use Rattle.td_vm.specs.Frames.{FrameView, IsArmed}

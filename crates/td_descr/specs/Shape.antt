@@ -2,30 +2,10 @@
 -- places in the text aside. Values in scope are named by their levels: 0 room, 1 most, 2 place, 3 size, 4 id, 5 flags.
 use Rattle.std.specs.Prelude.{◌≡◌, ℕ, ◌<◌, ◌^◌, ◌&&◌, nat_eq, Bool, true, false, List, [], ◌∷◌, Option, Some, None}
 use Rattle.td_num.specs.Lists.{AreBytes}
-use Rattle.td_num.specs.declared.number.Width.{Width}
-use Rattle.td_num.specs.declared.number.Width.TheVariants.{Two, Four}
-use Rattle.td_num.specs.declared.number.ByteOrder.{ByteOrder}
-use Rattle.td_num.specs.declared.number.ByteOrder.TheVariants.{LittleEndian}
-use Rattle.td_core.specs.declared.expressions.Relation.TheVariants.{Equal, LessEqual}
-use Rattle.td_core.specs.declared.expressions.Binary.TheVariants.{Minus}
+use Rattle.td_descr.specs.Imports.{Width, Two, Four, ByteOrder, LittleEndian, Equal, LessEqual, Subtract, Element, Extent, Once, Bits, Buffer, CopyOut, Part, Field, Param, Cell, Number as NumberCell, Pointer, Body, Struct, TypeDef, Module}
 use Rattle.td_core.specs.Term.{Term, number, name, compare, compute, both, Deed, done, set}
-use Rattle.td_core.specs.declared.module.Element.{Element}
 use Rattle.td_core.specs.declared.module.Element.TheVariants.{Number}
-use Rattle.td_core.specs.declared.module.Extent.{Extent}
-use Rattle.td_core.specs.declared.module.Extent.TheVariants.{Once}
-use Rattle.td_core.specs.declared.module.Bits.{Bits}
-use Rattle.td_core.specs.declared.module.Buffer.{Buffer}
-use Rattle.td_core.specs.declared.module.CopyOut.{CopyOut}
-use Rattle.td_core.specs.declared.module.Part.{Part}
-use Rattle.td_core.specs.declared.module.Field.{Field}
-use Rattle.td_core.specs.declared.module.Param.{Param}
-use Rattle.td_core.specs.declared.module.Cell.{Cell}
 use Rattle.td_core.specs.declared.module.CellKind.{CellKind}
-use Rattle.td_core.specs.declared.module.CellKind.TheVariants.{Number as NumberCell, Pointer}
-use Rattle.td_core.specs.declared.module.Body.{Body}
-use Rattle.td_core.specs.declared.module.Body.TheVariants.{Struct}
-use Rattle.td_core.specs.declared.module.TypeDef.{TypeDef}
-use Rattle.td_core.specs.declared.module.Module.{Module}
 use Rattle.td_core.specs.Entries.{entry_definition}
 use Rattle.td_core.specs.Formed.{AllFit, params_at, cells_at}
 use Rattle.td_meaning.specs.Meaning.{meaning}
@@ -44,7 +24,7 @@ is_zero e = false
 
 -- room - place
 abbrev pub is_rest : Term → Bool
-is_rest (compute Minus span a b) = is_level 0 a && is_level 2 b
+is_rest (compute Subtract span a b) = is_level 0 a && is_level 2 b
 is_rest e = false
 
 -- size <= room - place

@@ -1,6 +1,6 @@
 -- The words of a descriptor, and loads of them (own rule).
 use Rattle.std.specs.Prelude.{◌≡◌, ℕ, ◌+◌, List, [], ◌∷◌, ◌++◌, map, Option, Some, None}
-use Rattle.td_stream.specs.declared.load.Load.{Load}
+use Rattle.td_descr.specs.Imports.{Load}
 
 abbrev pub load_of : ℕ → ℕ → Load
 load_of word value = record { word = word; value = value }

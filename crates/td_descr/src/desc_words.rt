@@ -1,7 +1,7 @@
 //! The words of a descriptor.
 
 ghost use Rattle.std.specs.Prelude.{◌≡◌, ◌+◌, ◌^◌, ◌<◌, ◌≤◌, [], ◌∷◌};
-ghost use Rattle.td_stream.specs.declared.load.Load.{Load};
+ghost use Rattle.td_descr.specs.Imports.{Load};
 ghost use Rattle.td_descr.specs.Words.{load_of, raised};
 
 use crate::loads::DescLoads;

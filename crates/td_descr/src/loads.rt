@@ -16,7 +16,7 @@ pub struct DescLoads {
 
 impl Model for DescLoads {
     ghost use Rattle.std.specs.Prelude.{List};
-    ghost use Rattle.td_stream.specs.declared.load.Load.{Load};
+    ghost use Rattle.td_descr.specs.Imports.{Load};
     ghost use Rattle.td_descr.specs.Words.{pair_loads};
 
     ghost Value = { List Load };

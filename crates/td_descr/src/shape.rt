@@ -252,7 +252,7 @@ fn is_difference(e: &CoreExpr) -> bool
     ensures { result ≡ is_rest e.now }
 {
     match &e.node {
-        Node::Compute(Binary::Minus, _, a, b) => is_name(a, 0) && is_name(b, 2),
+        Node::Compute(Binary::Subtract, _, a, b) => is_name(a, 0) && is_name(b, 2),
         _ => false,
     }
 }

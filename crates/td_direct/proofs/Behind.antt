@@ -8,13 +8,7 @@ use Rattle.td_core.specs.Held.{AreHeld}
 use Rattle.td_core.specs.Outcome.{Ending, Accepted, Rejected, Behavior, FramePlace, plain, and_then, within, ending_within, copies_by}
 use Rattle.td_core.specs.Term.{Deed, done, set, keep, fork, answer, give_up}
 use Rattle.td_core.specs.WellFormed.{OfSome}
-use Rattle.td_core.specs.declared.module.NameId.{NameId}
-use Rattle.td_core.specs.declared.module.Part.{Part}
-use Rattle.td_core.specs.declared.outcome.Reason.{Reason}
-use Rattle.td_core.specs.declared.outcome.Reason.TheVariants.{Constraint, Action as ActionFails}
-use Rattle.td_core.specs.declared.outcome.TraceFrame.{TraceFrame}
-use Rattle.td_core.specs.declared.outcome.Verdict.{Verdict}
-use Rattle.td_core.specs.declared.outcome.Verdict.TheVariants.{Accept, Reject}
+use Rattle.td_direct.specs.Imports.{NameId, Part, Reason, Constraint, Action as ActionFails, TraceFrame, Verdict, Accept, Reject}
 use Rattle.td_meaning.specs.Doing.{Effect, On, Returned, Aborted, after, either_way}
 use Rattle.td_meaning.specs.Words64.{value_of, is_truth, is_met, doing, acted, checked, with_part, parts_meaning}
 use Rattle.td_meaning.specs.Meaning.{demanded, ended, field_place}

@@ -2,10 +2,9 @@
 use Rattle.std.proofs.Common.{◌≡◌, ℕ, ◌+◌, ◌*◌, ◌-◌, ◌<◌, ◌≤◌, min, List, length, drop, sym, ap, ◌∙◌, arith, slice_set}
 use Rattle.std.proofs.lemmas.List.{drop-set-add, map-set, length-drop}
 use Rattle.td_num.specs.Numbers.{places_from}
-use Rattle.td_core.specs.declared.module.CopyOut.{CopyOut}
+use Rattle.td_direct.specs.Imports.{CopyOut, NotEnough}
 use Rattle.td_core.specs.Held.{AreHeld}
 use Rattle.td_core.specs.Outcome.{accepted, rejected, after_reading, and_then, bytes_at, copies_by}
-use Rattle.td_core.specs.declared.outcome.Reason.TheVariants.{NotEnough}
 use Rattle.td_core.proofs.Copies.{copies_set}
 use Rattle.td_meaning.specs.Meaning.{with_copy}
 use Rattle.td_meaning.specs.Words64.{copied_meaning}

@@ -6,11 +6,7 @@ use Rattle.td_num.specs.Numbers.{places_from}
 use Rattle.td_core.specs.Entries.{entry_definition}
 use Rattle.td_core.specs.Held.{AreHeld}
 use Rattle.td_core.specs.Outcome.{Behavior, plain, copies_by}
-use Rattle.td_core.specs.declared.module.Entry.{Entry}
-use Rattle.td_core.specs.declared.module.Module.{Module}
-use Rattle.td_core.specs.declared.outcome.Outcome.{Outcome}
-use Rattle.td_core.specs.declared.outcome.TraceFrame.{TraceFrame}
-use Rattle.td_core.specs.declared.outcome.Verdict.{Verdict}
+use Rattle.td_direct.specs.Imports.{Entry, Module, Outcome, TraceFrame, Verdict, Load, Stream, Stretch}
 use Rattle.td_meaning.specs.Copies.{opened, IsSoundOn}
 use Rattle.td_meaning.specs.Words64.{below}
 use Rattle.td_meaning.specs.Meaning.{meaning}
@@ -22,9 +18,6 @@ use Rattle.td_direct.proofs.Stepping.{behavior_lent}
 use Rattle.td_stream.specs.Copies.{BufferView, held_by, rooms_of}
 use Rattle.td_stream.specs.Loads.{Carries}
 use Rattle.td_stream.specs.StreamInvariant.{layout_of}
-use Rattle.td_stream.specs.declared.load.Load.{Load}
-use Rattle.td_stream.specs.declared.stream.Stream.{Stream}
-use Rattle.td_stream.specs.declared.stretch.Stretch.{Stretch}
 use Rattle.td_direct.specs.Copies.{AreOfEntry}
 use Rattle.td_direct.specs.Placing.{IsPlaced}
 use Rattle.td_direct.proofs.Placed.{zeros, at_entry, definition_placed, buffers_for, count_of, held_first}

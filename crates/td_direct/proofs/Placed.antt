@@ -12,22 +12,14 @@ use Rattle.td_core.specs.Formed.{Bound, cell_bound, cell_bounds, buffer_bounds, 
 use Rattle.td_core.specs.Held.{IsBufferAt, AreHeld}
 use Rattle.td_core.specs.Outcome.{copies_by}
 use Rattle.td_core.specs.WellFormed.{OfSome, EachField}
-use Rattle.td_core.specs.declared.module.Buffer.{Buffer}
+use Rattle.td_direct.specs.Imports.{Buffer, CopyOut, Struct, Casetype, Element, Number, Listed, Named, Unit as UnitElement, Rest, Zeros, Field, Module, TypeDef, Entry}
 use Rattle.td_core.specs.declared.module.Case.{Case}
-use Rattle.td_core.specs.declared.module.CopyOut.{CopyOut}
 use Rattle.td_core.specs.declared.module.Body.{Body}
-use Rattle.td_core.specs.declared.module.Body.TheVariants.{Struct, Casetype}
-use Rattle.td_core.specs.declared.module.Element.{Element}
-use Rattle.td_core.specs.declared.module.Element.TheVariants.{Number, Listed, Named, Unit as UnitElement, Rest, Zeros}
-use Rattle.td_core.specs.declared.module.Field.{Field}
-use Rattle.td_core.specs.declared.module.Module.{Module}
-use Rattle.td_core.specs.declared.module.TypeDef.{TypeDef}
 use Rattle.td_core.proofs.Found.{cells_mapped}
 use Rattle.td_meaning.specs.Words64.{value_of, body_fields}
 use Rattle.td_meaning.specs.Meaning.{case_for}
 use Rattle.td_stream.specs.Copies.{BufferView, held_by, rooms_of, empty_with}
 use Rattle.td_core.specs.Entries.{definition_at}
-use Rattle.td_core.specs.declared.module.Entry.{Entry}
 use Rattle.td_meaning.specs.Copies.{buffers_at}
 use Rattle.td_direct.specs.Copies.{AreBuffersFor, AreOfDefinition, AreOfEntry}
 use Rattle.td_direct.specs.Placing.{HasPlaces, IsPlaced, IsElementPlaced, IsCopyPlaced, IsFieldPlaced, IsLongFor, IsElementLong, IsDefinitionGiven, AreGiven}

@@ -2,17 +2,11 @@
 use Rattle.std.proofs.Common.{rules, ◌≡◌, ⊎_elim, inl, inr, ℕ, take, drop, List, [], ◌++◌, refl, sym, ap, ◌∙◌, subst, append_assoc, append-nil}
 use Rattle.std.specs.List.{Contains}
 use Rattle.std.proofs.lemmas.List.Elements.{Contains-append_left, Contains-append_right}
-use Rattle.td_stream.specs.declared.load.Load.{Load}
-use Rattle.td_stream.specs.declared.stream.Stream.{Stream}
-use Rattle.td_stream.specs.declared.stretch.Stretch.{Stretch}
+use Rattle.td_direct.specs.Imports.{Load, Stream, Stretch, Outcome, TraceFrame, Verdict, Accept, Reject}
 use Rattle.td_stream.specs.Layouts.{word_at}
 use Rattle.td_stream.specs.Loads.{Carries, IsLoaded, Exactly, OnlyTouched}
 use Rattle.td_stream.specs.StreamInvariant.{layout_of}
 use Rattle.td_stream.proofs.Places.{look_more, look_nowhere}
-use Rattle.td_core.specs.declared.outcome.Outcome.{Outcome}
-use Rattle.td_core.specs.declared.outcome.TraceFrame.{TraceFrame}
-use Rattle.td_core.specs.declared.outcome.Verdict.{Verdict}
-use Rattle.td_core.specs.declared.outcome.Verdict.TheVariants.{Accept, Reject}
 use Rattle.td_core.specs.Outcome.{Ending, Accepted, Rejected, Behavior, FramePlace, plain, after_reading, onward, and_then, ending_within, within, outcome_of, copies_by}
 use Rattle.td_meaning.specs.Verdicts.{ending_of, IsAt}
 use Rattle.td_meaning.proofs.Steps.{reading_then}

@@ -3,15 +3,11 @@ use Rattle.std.proofs.Common.{◌≡◌, ℕ, ◌+◌, ◌*◌, List, [], length
 use Rattle.std.proofs.lemmas.List.{length-map}
 use Rattle.td_core.specs.Held.{AreHeld}
 use Rattle.td_core.specs.Outcome.{Accepted, Rejected, Behavior, FramePlace, plain, accepted, and_then, ending_within, within}
-use Rattle.td_core.specs.declared.outcome.Reason.{Reason}
-use Rattle.td_core.specs.declared.outcome.Verdict.{Verdict}
-use Rattle.td_core.specs.declared.outcome.Verdict.TheVariants.{Accept, Reject}
+use Rattle.td_direct.specs.Imports.{Reason, Verdict, Accept, Reject, Load, Stream}
 use Rattle.td_meaning.specs.Verdicts.{ending_of, IsAt}
 use Rattle.td_stream.specs.Copies.{BufferView, held_by}
 use Rattle.td_stream.specs.Loads.{Carries}
 use Rattle.td_stream.specs.StreamInvariant.{IsStream, Later, Moves, layout_of, loads_of, position, end_of}
-use Rattle.td_stream.specs.declared.load.Load.{Load}
-use Rattle.td_stream.specs.declared.stream.Stream.{Stream}
 use Rattle.td_stream.proofs.Stages.{later_trans, later_self, carried}
 use Rattle.td_direct.specs.Validates.{Reads, IsLent, Validates, Decides, RunsOut}
 use Rattle.td_direct.specs.declared.slate.Slate.{Slate}

@@ -1,6 +1,6 @@
 -- Arrays, as far as they are validated by one function; of use inside this crate alone.
 use Rattle.std.specs.Prelude.{ℕ, suc, ◌-◌, nat_eq, List}
-use Rattle.td_core.specs.declared.outcome.Reason.TheVariants.{ListSize}
+use Rattle.td_direct.specs.Imports.{ListSize}
 use Rattle.td_core.specs.Outcome.{Behavior}
 use Rattle.td_meaning.specs.Meaning.{demanded, elements}
 

@@ -1,10 +1,7 @@
 -- Buffers for the copies of a validation.
 use Rattle.std.specs.Prelude.{◌≡◌, ℕ, ◌≤◌, List, [], ◌∷◌, length, map, Option, Some, None}
 use Rattle.td_core.specs.Entries.{entry_definition}
-use Rattle.td_core.specs.declared.module.Buffer.{Buffer}
-use Rattle.td_core.specs.declared.module.Entry.{Entry}
-use Rattle.td_core.specs.declared.module.Module.{Module}
-use Rattle.td_core.specs.declared.module.TypeDef.{TypeDef}
+use Rattle.td_direct.specs.Imports.{Buffer, Entry, Module, TypeDef}
 use Rattle.td_stream.specs.Copies.{BufferView, empty_with}
 
 -- an empty buffer for each copy parameter, in order, with at least its room

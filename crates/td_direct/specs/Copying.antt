@@ -1,9 +1,7 @@
 -- When a field's bytes are copied; of use inside this crate alone.
 use Rattle.std.specs.Prelude.{◌≡◌, ℕ, List, Option, Some}
 use Rattle.td_core.specs.Term.{Term}
-use Rattle.td_core.specs.declared.module.CopyOut.{CopyOut}
-use Rattle.td_core.specs.declared.module.Extent.TheVariants.{Filling}
-use Rattle.td_core.specs.declared.module.Field.{Field}
+use Rattle.td_direct.specs.Imports.{CopyOut, Filling, Field}
 use Rattle.td_meaning.specs.Words64.{content_meaning, shape_meaning}
 use Rattle.td_meaning.specs.Meaning.{Sense}
 

@@ -1,8 +1,7 @@
 -- Which number a field brings into scope; of use below the validator alone.
 use Rattle.std.specs.Prelude.{◌≡◌}
-use Rattle.td_core.specs.declared.module.Element.{Element}
+use Rattle.td_direct.specs.Imports.{Element, Extent}
 use Rattle.td_core.specs.declared.module.Element.TheVariants as element
-use Rattle.td_core.specs.declared.module.Extent.{Extent}
 use Rattle.td_core.specs.declared.module.Extent.TheVariants as extent
 use Rattle.td_direct.specs.declared.counting.Counted.{Counted}
 use Rattle.td_direct.specs.declared.counting.Counted.TheVariants.{Number, Listed, Plain}

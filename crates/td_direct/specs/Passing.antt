@@ -1,10 +1,6 @@
 -- Elements that are passed over without a look; of use inside this crate alone.
 use Rattle.std.specs.Prelude.{◌≡◌, ℕ, zero, suc, ◌+◌, ◌≤◌, ◌<◌, ◌%◌, Bool, false, nat_eq, List, [], ◌∷◌, Option, Some, None, slice_get}
-use Rattle.td_core.specs.declared.module.Element.{Element}
-use Rattle.td_core.specs.declared.module.Extent.{Extent}
-use Rattle.td_core.specs.declared.module.Part.{Part}
-use Rattle.td_core.specs.declared.module.Field.{Field}
-use Rattle.td_core.specs.declared.module.Module.{Module}
+use Rattle.td_direct.specs.Imports.{Element, Extent, Part, Field, Module}
 use Rattle.td_core.specs.Outcome.{accepted}
 use Rattle.td_meaning.specs.Naming.{element_names, extent_names}
 use Rattle.td_meaning.specs.Words64.{below, element_meaning, shape_meaning}

@@ -5,13 +5,7 @@ use Rattle.td_num.specs.Lists.{Each}
 use Rattle.td_core.specs.Copies.{IsDefinitionCopying, NamesCells}
 use Rattle.td_core.specs.Held.{IsBufferAt}
 use Rattle.td_core.specs.WellFormed.{OfSome, EachField}
-use Rattle.td_core.specs.declared.module.Buffer.{Buffer}
-use Rattle.td_core.specs.declared.module.CopyOut.{CopyOut}
-use Rattle.td_core.specs.declared.module.Element.{Element}
-use Rattle.td_core.specs.declared.module.Element.TheVariants.{Named}
-use Rattle.td_core.specs.declared.module.Part.{Part}
-use Rattle.td_core.specs.declared.module.Field.{Field}
-use Rattle.td_core.specs.declared.module.TypeDef.{TypeDef}
+use Rattle.td_direct.specs.Imports.{Buffer, CopyOut, Element, Named, Part, Field, TypeDef}
 
 -- a definition's cells are some of the first ones, and each of its buffers is one of the entry point's that has room for it
 pub record HasPlaces (d : TypeDef) (places : List ℕ) (first : ℕ) (rooms : List ℕ) : Type 0 where

@@ -2,19 +2,13 @@
 use Rattle.std.specs.Prelude.{◌≡◌, ◌⊎◌, ℕ, List, length}
 use Rattle.td_core.specs.Held.{AreHeld}
 use Rattle.td_core.specs.Outcome.{Behavior, after_reading, and_then, plain}
-use Rattle.td_core.specs.declared.module.Field.{Field}
-use Rattle.td_core.specs.declared.module.Module.{Module}
-use Rattle.td_core.specs.declared.module.NameId.{NameId}
-use Rattle.td_core.specs.declared.module.Part.{Part}
-use Rattle.td_core.specs.declared.outcome.Verdict.{Verdict}
+use Rattle.td_direct.specs.Imports.{Field, Module, NameId, Part, Verdict, Load, Stream}
 use Rattle.td_meaning.specs.Words64.{below, parts_meaning, fields_meaning}
 use Rattle.td_meaning.specs.Meaning.{Sense, extended}
 use Rattle.td_meaning.specs.Verdicts.{ending_of, IsAt}
 use Rattle.td_stream.specs.Copies.{held_by, rooms_of}
 use Rattle.td_stream.specs.Loads.{Carries, IsLoaded, IsTouched}
 use Rattle.td_stream.specs.StreamInvariant.{IsStream, Later, Looked, layout_of, loads_of, position, end_of}
-use Rattle.td_stream.specs.declared.load.Load.{Load}
-use Rattle.td_stream.specs.declared.stream.Stream.{Stream}
 use Rattle.td_direct.specs.declared.slate.Slate.{Slate}
 
 -- what the definitions of a module below a bound mean

@@ -27,7 +27,7 @@ fn number_of(place: usize, first: usize) -> usize
 }
 
 /// So many bytes, of which the first ones, up to the room, go to a buffer, from the one load of each of their words.
-pub fn validate_copied<W: Words>(
+pub(crate) fn validate_copied<W: Words>(
     copy: CopyOut,
     size: u64,
     places: &[usize],

@@ -14,7 +14,7 @@ pub struct Copied<'a> {
 }
 
 /// Where the bytes of a field go; none where they aren't copied.
-pub fn copied_in(field: &Field) -> Option<Copied<'_>>
+pub(crate) fn copied_in(field: &Field) -> Option<Copied<'_>>
     ensures { MatchOption result (IsKept field.now) (λ c. IsCopiedBy field.now c.copy c.size.now) }
 {
     let Some(copy) = field.copy else {

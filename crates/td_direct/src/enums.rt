@@ -26,7 +26,7 @@ use td_stream::stream::Stream;
 use td_stream::words::Words;
 
 /// A number, of a field that began at `start`, that must be among some values. It is always read.
-pub fn validate_listed<W: Words>(
+pub(crate) fn validate_listed<W: Words>(
     base: NumberType,
     values: &[u64],
     start: u32,
@@ -68,7 +68,7 @@ pub fn validate_listed<W: Words>(
 
 /// A number of an enum in a field of its own. `AllocError`: its bytes don't stand before the end, or it isn't among the
 /// values, and there was no memory for the frame.
-pub fn validate_listed_field<W: Words>(
+pub(crate) fn validate_listed_field<W: Words>(
     ty: NameId,
     base: NumberType,
     values: u32,

@@ -45,7 +45,7 @@ pub fn pass<W: Words>(count: u32, start: u32, stream: &mut Stream<W>) -> Verdict
 
 /// A number in a field of its own, which is read where `read` says so: where it is refined, or named later with the values in
 /// scope. `AllocError`: its bytes don't stand before the end, and there was no memory for the frame.
-pub fn validate_number<W: Words>(
+pub(crate) fn validate_number<W: Words>(
     ty: NameId,
     number_type: NumberType,
     field: &Field,

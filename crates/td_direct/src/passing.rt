@@ -34,7 +34,7 @@ pub fn passed_size(types: &Types, bound: usize, element: &Element) -> Option<u64
 }
 
 /// Whether elements of a size that are passed over without a look fill so many bytes.
-pub fn passes_all(size: Option<u64>, count: u64) -> bool
+pub(crate) fn passes_all(size: Option<u64>, count: u64) -> bool
     ensures { result ≡ passes_all size count }
 {
     match size {

@@ -4,7 +4,7 @@
 ghost use Rattle.std.specs.Prelude.{◌≡◌, ℕ, ◌+◌, ◌<◌, ◌≤◌, List, length, IfOk, OnErr, IfSome, true, false, Some};
 ghost use Rattle.td_core.specs.Outcome.{accepted};
 ghost use Rattle.td_core.specs.Term.{number};
-ghost use Rattle.td_core.specs.declared.expressions.Scalar.{Scalar};
+ghost use Rattle.td_direct.specs.Imports.{Scalar};
 ghost use Rattle.td_meaning.specs.Words64.{below, definition_meaning};
 ghost use Rattle.td_meaning.specs.Naming.{element_names, extent_names};
 ghost use Rattle.td_direct.specs.Passing.{AreSizes, ArePlainParts, IsShapePassed, IsQuiet, AreQuiet};
@@ -114,7 +114,7 @@ fn passed_definition(types: &Types, bound: usize, definition: &TypeDef) -> Optio
 
 /// For each definition of a module the size of what may be passed over without a look, where it is such a one.
 /// `AllocError`: there is a definition, and there was no memory for their sizes.
-pub fn sizes_of(alloc: Global, m: &Module) -> Result<Vec<Option<u64>>, AllocError>
+pub(crate) fn sizes_of(alloc: Global, m: &Module) -> Result<Vec<Option<u64>>, AllocError>
     ensures sizes { IfOk result (λ sizes. AreSizes m.now sizes.items) }
     ensures many { IfOk result (λ sizes. length sizes.items ≡ length m.now.definitions) }
     ensures memory { OnErr result (0 < length m.now.definitions) }

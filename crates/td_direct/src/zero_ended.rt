@@ -27,7 +27,7 @@ pub fn unfit(start: u32) -> Verdict
 }
 
 /// Numbers up to and with the first 0, within `size` bytes.
-pub fn validate_up_to_zero<W: Words>(
+pub(crate) fn validate_up_to_zero<W: Words>(
     number_type: NumberType,
     size: u64,
     stream: &mut Stream<W>,
@@ -57,7 +57,7 @@ pub fn validate_up_to_zero<W: Words>(
 }
 
 /// Elements up to and with the first 0, within `size` bytes. Only numbers stand so.
-pub fn validate_zero_ended<W: Words>(
+pub(crate) fn validate_zero_ended<W: Words>(
     element: &Element,
     size: u64,
     stream: &mut Stream<W>,

@@ -13,7 +13,7 @@ use td_stream::stream::Stream;
 use td_stream::words::Words;
 
 /// All bytes up to the end, each of them 0.
-pub fn validate_zeros<W: Words>(stream: &mut Stream<W>) -> Verdict
+pub(crate) fn validate_zeros<W: Words>(stream: &mut Stream<W>) -> Verdict
     requires whole { IsStream W.loads W.size stream.old }
     ensures later { Later W.loads W.reaches stream.old stream.new }
     ensures whole { IsStream W.loads W.size stream.new }

@@ -80,7 +80,7 @@ pub fn check_target(target: Target, at: Span, findings: &mut Findings)
 }
 
 /// A pointer that is read, by its `*`.
-pub fn check_read(target: Target, star: Span, findings: &mut Findings)
+pub(crate) fn check_read(target: Target, star: Span, findings: &mut Findings)
     ensures { findings.new.first ≡ first_of findings.old.first (read_breaches target star) }
 {
     match target {

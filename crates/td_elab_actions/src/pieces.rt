@@ -126,7 +126,7 @@ pub fn store(
 
 /// `*p = rhs;`. `AllocError` as of `store`.
 #[tactic(auto, using(td_elab_exprs::proofs::Steps::first_append))]
-pub fn store_cell(
+pub(crate) fn store_cell(
     alloc: Global,
     known: &Known,
     scope: &Scope,
@@ -145,7 +145,7 @@ pub fn store_cell(
 
 /// `p->f = rhs;`
 #[tactic(auto, using(td_elab_exprs::proofs::Steps::first_append))]
-pub fn store_slot(
+pub(crate) fn store_slot(
     alloc: Global,
     known: &Known,
     scope: &Scope,

@@ -67,7 +67,7 @@ fn statement_ways(statement: &Stmt) -> Ways
 
 /// The paths through statements.
 #[cycle(ways)]
-pub fn block_ways(statements: &[Stmt]) -> Ways
+pub(crate) fn block_ways(statements: &[Stmt]) -> Ways
     ensures { result ≡ block_ways open_way (block_of statements.now) }
 {
     let mut ways = OPEN;
@@ -78,7 +78,7 @@ pub fn block_ways(statements: &[Stmt]) -> Ways
 }
 
 /// Whether an action whose word is this one may have these paths.
-pub fn is_shaped(kind: ActionKind, ways: Ways) -> bool
+pub(crate) fn is_shaped(kind: ActionKind, ways: Ways) -> bool
     ensures { result ≡ is_shaped kind ways }
 {
     match kind {

@@ -68,7 +68,11 @@ fn check_slots(
 }
 
 /// The names of slots, beside others. `AllocError`: there is a slot, and out of memory.
-pub fn see_slots(alloc: Global, trees: &[SlotTree], names: &mut Names) -> Result<(), AllocError>
+pub(crate) fn see_slots(
+    alloc: Global,
+    trees: &[SlotTree],
+    names: &mut Names,
+) -> Result<(), AllocError>
     ensures names { OnOk result (names.new ≡ with_slots names.old trees.now) }
     ensures memory { OnErr result (0 < length trees.now) }
 {

@@ -47,7 +47,7 @@ fn is_past_room(value: Option<u64>) -> bool
 
 /// Notes what the room of a copy buffer breaks.
 #[tactic(auto, using(td_elab_exprs::proofs::Steps::first_append))]
-pub fn check_room(known: &Known, scope: &Scope, tree: &ConstTree, findings: &mut Findings)
+pub(crate) fn check_room(known: &Known, scope: &Scope, tree: &ConstTree, findings: &mut Findings)
     ensures { findings.new.first ≡ first_of findings.old.first (room_breaches known.now scope.now tree.now) }
 {
     check_constant(known, scope, tree, findings);

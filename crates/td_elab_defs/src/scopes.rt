@@ -27,7 +27,7 @@ pub fn nothing_known(alloc: Global) -> Known
 }
 
 /// The scope outside structs and casetypes. Takes no memory.
-pub fn no_scope(alloc: Global) -> Scope
+pub(crate) fn no_scope(alloc: Global) -> Scope
     ensures { result ≡ no_scope }
 {
     Scope {
@@ -41,7 +41,7 @@ pub fn no_scope(alloc: Global) -> Scope
 }
 
 /// The names before a definition gives any. Takes no memory.
-pub fn none_taken(alloc: Global) -> Taken
+pub(crate) fn none_taken(alloc: Global) -> Taken
     ensures { result ≡ none_taken }
 {
     Taken {

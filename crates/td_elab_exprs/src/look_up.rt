@@ -68,7 +68,7 @@ pub fn size_found(known: &Known, found: Found) -> Option<u64>
 }
 
 /// The size in bytes that `sizeof` gives, where there is one.
-pub fn size_named(known: &Known, scope: &Scope, operand: &SizeofOperand) -> Option<u64>
+pub(crate) fn size_named(known: &Known, scope: &Scope, operand: &SizeofOperand) -> Option<u64>
     ensures { result ≡ size_named known.now scope.now operand.now }
 {
     match operand {

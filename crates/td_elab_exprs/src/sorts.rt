@@ -25,7 +25,7 @@ pub fn fits(n: u64, w: Scalar) -> bool
 }
 
 /// The narrowest type that holds a number.
-pub fn narrowest(n: u64) -> Scalar
+pub(crate) fn narrowest(n: u64) -> Scalar
     ensures { result ≡ narrowest n }
 {
     if fits(n, Scalar::Eight) {
@@ -40,7 +40,7 @@ pub fn narrowest(n: u64) -> Scalar
 }
 
 /// The type of a literal beside another operand.
-pub fn literal_type(n: u64, other: Sort) -> Scalar
+pub(crate) fn literal_type(n: u64, other: Sort) -> Scalar
     ensures { result ≡ literal_type n other }
 {
     match other {
@@ -83,15 +83,15 @@ fn computed_sort(op: Binary, a: Sort, b: Sort) -> Sort
 }
 
 /// What an operator of two operands does.
-pub fn operation(operator: BinaryOperator) -> Operation
+pub(crate) fn operation(operator: BinaryOperator) -> Operation
     ensures { result ≡ operation operator }
 {
     match operator {
-        BinaryOperator::Multiply => Operation::Computes(Binary::Times),
-        BinaryOperator::Divide => Operation::Computes(Binary::Over),
-        BinaryOperator::Remainder => Operation::Computes(Binary::Modulo),
-        BinaryOperator::Add => Operation::Computes(Binary::Plus),
-        BinaryOperator::Subtract => Operation::Computes(Binary::Minus),
+        BinaryOperator::Multiply => Operation::Computes(Binary::Multiply),
+        BinaryOperator::Divide => Operation::Computes(Binary::Divide),
+        BinaryOperator::Remainder => Operation::Computes(Binary::Remainder),
+        BinaryOperator::Add => Operation::Computes(Binary::Add),
+        BinaryOperator::Subtract => Operation::Computes(Binary::Subtract),
         BinaryOperator::ShiftLeft => Operation::Computes(Binary::ShiftLeft),
         BinaryOperator::ShiftRight => Operation::Computes(Binary::ShiftRight),
         BinaryOperator::Less => Operation::Compares(Relation::Less),
@@ -109,7 +109,7 @@ pub fn operation(operator: BinaryOperator) -> Operation
 }
 
 /// The sort of an operator's result.
-pub fn operation_sort(operation: Operation, a: Sort, b: Sort) -> Sort
+pub(crate) fn operation_sort(operation: Operation, a: Sort, b: Sort) -> Sort
     ensures { result ≡ operation_sort operation a b }
 {
     match operation {
@@ -119,7 +119,7 @@ pub fn operation_sort(operation: Operation, a: Sort, b: Sort) -> Sort
 }
 
 /// The sort of the result of `!` or `~`.
-pub fn unary_sort(operator: UnaryOperator, a: Sort) -> Sort
+pub(crate) fn unary_sort(operator: UnaryOperator, a: Sort) -> Sort
     ensures { result ≡ unary_sort operator a }
 {
     match operator {
@@ -142,7 +142,7 @@ fn wider_sort(a: Sort, b: Sort) -> Sort
 }
 
 /// The sort of a choice between two branches.
-pub fn choice_sort(a: Sort, b: Sort) -> Sort
+pub(crate) fn choice_sort(a: Sort, b: Sort) -> Sort
     ensures { result ≡ choice_sort a b }
 {
     match a {
@@ -166,7 +166,7 @@ pub fn choice_sort(a: Sort, b: Sort) -> Sort
 }
 
 /// The sort of a size, where there is one.
-pub fn size_sort(size: Option<u64>) -> Sort
+pub(crate) fn size_sort(size: Option<u64>) -> Sort
     ensures { result ≡ size_sort size }
 {
     match size {
@@ -176,7 +176,7 @@ pub fn size_sort(size: Option<u64>) -> Sort
 }
 
 /// The sort of a name's value.
-pub fn found_sort(found: Found) -> Sort
+pub(crate) fn found_sort(found: Found) -> Sort
     ensures { result ≡ found_sort found }
 {
     match found {
@@ -187,7 +187,7 @@ pub fn found_sort(found: Found) -> Sort
 }
 
 /// The sort of `field_pos`.
-pub fn start_sort(start: Option<u32>) -> Sort
+pub(crate) fn start_sort(start: Option<u32>) -> Sort
     ensures { result ≡ start_sort start }
 {
     match start {
@@ -217,7 +217,7 @@ pub fn is_number(s: Sort) -> bool
 }
 
 /// Whether the operand of `!` or `~` is of the wrong sort.
-pub fn is_wrong_operand(operator: UnaryOperator, a: Sort) -> bool
+pub(crate) fn is_wrong_operand(operator: UnaryOperator, a: Sort) -> bool
     ensures { result ≡ is_wrong_operand operator a }
 {
     match operator {
@@ -227,7 +227,7 @@ pub fn is_wrong_operand(operator: UnaryOperator, a: Sort) -> bool
 }
 
 /// Whether an operand of an operator is of the wrong sort.
-pub fn are_wrong_operands(operation: Operation, a: Sort, b: Sort) -> bool
+pub(crate) fn are_wrong_operands(operation: Operation, a: Sort, b: Sort) -> bool
     ensures { result ≡ are_wrong_operands operation a b }
 {
     match operation {
@@ -237,14 +237,14 @@ pub fn are_wrong_operands(operation: Operation, a: Sort, b: Sort) -> bool
 }
 
 /// Whether a condition is a number, or the branches are of two sorts.
-pub fn is_wrong_choice(c: Sort, a: Sort, b: Sort) -> bool
+pub(crate) fn is_wrong_choice(c: Sort, a: Sort, b: Sort) -> bool
     ensures { result ≡ is_wrong_choice c a b }
 {
     is_number(c) || (is_truth(a) && is_number(b)) || (is_number(a) && is_truth(b))
 }
 
 /// Whether a number is wider than a type.
-pub fn is_wider(v: Option<Scalar>, w: Scalar) -> bool
+pub(crate) fn is_wider(v: Option<Scalar>, w: Scalar) -> bool
     ensures { result ≡ is_wider v w }
 {
     match v {

@@ -107,7 +107,7 @@ fn allowed(base: Option<NumberType>, width: u64) -> Option<u32>
 }
 
 /// How many bits a field has of a number, where it is a bit field of an allowed width.
-pub fn bit_width(
+pub(crate) fn bit_width(
     known: &Known,
     scope: &Scope,
     tree: &TypeTree,

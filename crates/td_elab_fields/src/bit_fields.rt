@@ -14,7 +14,7 @@ use td_num::items::Items;
 use td_num::number::{ByteOrder, NumberType, byte_count};
 
 /// Whether so many bits of a base fit in a number that is being divided.
-pub fn fits_room(room: Option<UnitRoom>, base: NumberType, width: u32) -> bool
+pub(crate) fn fits_room(room: Option<UnitRoom>, base: NumberType, width: u32) -> bool
     ensures { result ≡ fits_room room base width }
 {
     match room {

@@ -17,7 +17,12 @@ use td_elab_types::buffers::first_cell;
 use td_elab_types::types::{is_byte, number_type};
 
 /// Whether it is a byte-sized array of `UINT8`.
-pub fn are_bytes(known: &Known, scope: &Scope, tree: &TypeTree, extent: &Option<ExtentTree>) -> bool
+pub(crate) fn are_bytes(
+    known: &Known,
+    scope: &Scope,
+    tree: &TypeTree,
+    extent: &Option<ExtentTree>,
+) -> bool
     ensures { result ≡ are_bytes known.now scope.now tree.now extent.now }
 {
     match extent {

@@ -75,7 +75,7 @@ fn readable_bits(width: Width, bits: Option<u32>) -> Readable
 }
 
 /// The number that a field gives, where it is a number, an enum or bits, but no array.
-pub fn readable_of(known: &Known, scope: &Scope, tree: &FieldTree) -> Option<Readable>
+pub(crate) fn readable_of(known: &Known, scope: &Scope, tree: &FieldTree) -> Option<Readable>
     ensures { result ≡ readable_of known.now scope.now tree.now }
 {
     if is_array(&tree.extent) {
@@ -89,7 +89,7 @@ pub fn readable_of(known: &Known, scope: &Scope, tree: &FieldTree) -> Option<Rea
 }
 
 /// The name of a field in scope, with the number that it gives. `AllocError`: out of memory.
-pub fn add_readable(
+pub(crate) fn add_readable(
     alloc: Global,
     scope: &mut Scope,
     name: &[u8],
@@ -117,7 +117,7 @@ pub fn check_name(known: &Known, taken: &Taken, tree: &FieldTree, findings: &mut
 }
 
 /// Notes a refinement of a field that gives no number.
-pub fn check_refined(known: &Known, scope: &Scope, tree: &FieldTree, findings: &mut Findings)
+pub(crate) fn check_refined(known: &Known, scope: &Scope, tree: &FieldTree, findings: &mut Findings)
     ensures { findings.new.first ≡ first_of findings.old.first (refined_breaches known.now scope.now tree.now) }
 {
     let is_readable = readable_of(known, scope, tree).is_some();
@@ -126,7 +126,10 @@ pub fn check_refined(known: &Known, scope: &Scope, tree: &FieldTree, findings: &
 }
 
 /// The refinement of a field that gives this number.
-pub fn refinement_of(readable: Option<Readable>, refinement: Option<CoreExpr>) -> Option<CoreExpr>
+pub(crate) fn refinement_of(
+    readable: Option<Readable>,
+    refinement: Option<CoreExpr>,
+) -> Option<CoreExpr>
     ensures { result ≡ refinement_core readable refinement }
 {
     match readable {

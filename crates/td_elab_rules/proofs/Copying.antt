@@ -7,33 +7,14 @@ use Rattle.std.proofs.lemmas.List.{length-map}
 use Rattle.std.proofs.lemmas.Option.{none-some, same_Some, slice_get_within}
 use Rattle.td_num.specs.Lists.{Each}
 use Rattle.td_num.proofs.Lists.{each_append}
-use Rattle.td_num.specs.declared.number.NumberType.{NumberType}
-use Rattle.td_num.specs.declared.number.Width.{Width}
+use Rattle.td_elab_rules.specs.Imports.{NumberType, Width, ByteOrder, LittleEndian, BigEndian, Span, ActionTree, Done, Copied, TypeKind, TypeTree, ExtentTree, FieldTree, NameId, Element, Extent, CopyOut, Part, CellKind, Cell, Buffer, TypeDef}
 use Rattle.td_num.specs.declared.number.Width.TheVariants.{One, Two, Four, Eight}
-use Rattle.td_num.specs.declared.number.ByteOrder.{ByteOrder}
-use Rattle.td_num.specs.declared.number.ByteOrder.TheVariants.{LittleEndian, BigEndian}
 use Rattle.td_ast.specs.Extents.{is_array}
 use Rattle.td_ast.specs.Trees.{Tree}
-use Rattle.td_ast.specs.declared.token.Span.{Span}
-use Rattle.td_ast.specs.declared.actions.ActionTree.{ActionTree}
-use Rattle.td_ast.specs.declared.actions.ActionTree.TheVariants.{Done, Copied}
-use Rattle.td_ast.specs.declared.fields.TypeKind.{TypeKind}
 use Rattle.td_ast.specs.declared.fields.TypeKind.TheVariants as type
-use Rattle.td_ast.specs.declared.fields.TypeTree.{TypeTree}
-use Rattle.td_ast.specs.declared.fields.ExtentTree.{ExtentTree}
 use Rattle.td_ast.specs.declared.fields.ExtentTree.TheVariants as after
-use Rattle.td_ast.specs.declared.fields.FieldTree.{FieldTree}
 use Rattle.td_core.specs.Term.{Term, Deed}
-use Rattle.td_core.specs.declared.module.NameId.{NameId}
-use Rattle.td_core.specs.declared.module.Element.{Element}
 use Rattle.td_core.specs.declared.module.Element.TheVariants as element
-use Rattle.td_core.specs.declared.module.Extent.{Extent}
-use Rattle.td_core.specs.declared.module.CopyOut.{CopyOut}
-use Rattle.td_core.specs.declared.module.Part.{Part}
-use Rattle.td_core.specs.declared.module.CellKind.{CellKind}
-use Rattle.td_core.specs.declared.module.Cell.{Cell}
-use Rattle.td_core.specs.declared.module.Buffer.{Buffer}
-use Rattle.td_core.specs.declared.module.TypeDef.{TypeDef}
 use Rattle.td_core.specs.Formed.{Bound, cell_bound, IsActionFormed}
 use Rattle.td_core.specs.WellFormed.{OfSome}
 use Rattle.td_core.specs.Copies.{IsCopied, IsBufferCell, IsCopyWhole, AreBuffersGiven, AreOwnGiven, IsElementGiven, NamesCells, IsFieldCopying}

@@ -5,34 +5,14 @@ use Rattle.std.proofs.lemmas.Bool.{leb-true, ltb-true, and_parts, false≢true}
 use Rattle.std.proofs.lemmas.Nat.{pow_pos}
 use Rattle.std.proofs.lemmas.Option.{none-some, same_Some, slice_get_within}
 use Rattle.td_num.specs.Numbers.{bytes_in}
-use Rattle.td_num.specs.declared.number.Width.{Width}
+use Rattle.td_elab_rules.specs.Imports.{Width, NumberType, Span, TypeKind, TypeTree, ExtentTree, FieldTree, ActionTree, NameId, Element, Extent, Once, Filling, OnceFilling, UpToZero, CopyOut, Bits, Param, CellKind, Number as NumberCell, Pointer as PointerCell, Cell, Part, Field, TypeDef}
 use Rattle.td_num.specs.declared.number.Width.TheVariants.{One, Two, Four, Eight}
-use Rattle.td_num.specs.declared.number.NumberType.{NumberType}
 use Rattle.td_ast.specs.Extents.{is_array}
-use Rattle.td_ast.specs.declared.token.Span.{Span}
-use Rattle.td_ast.specs.declared.fields.TypeKind.{TypeKind}
 use Rattle.td_ast.specs.declared.fields.TypeKind.TheVariants as type
-use Rattle.td_ast.specs.declared.fields.TypeTree.{TypeTree}
-use Rattle.td_ast.specs.declared.fields.ExtentTree.{ExtentTree}
 use Rattle.td_ast.specs.declared.fields.ExtentTree.TheVariants as after
-use Rattle.td_ast.specs.declared.fields.FieldTree.{FieldTree}
-use Rattle.td_ast.specs.declared.actions.ActionTree.{ActionTree}
 use Rattle.td_ast.specs.Trees.{Tree}
 use Rattle.td_core.specs.Term.{Term, Deed}
-use Rattle.td_core.specs.declared.module.NameId.{NameId}
-use Rattle.td_core.specs.declared.module.Element.{Element}
 use Rattle.td_core.specs.declared.module.Element.TheVariants as element
-use Rattle.td_core.specs.declared.module.Extent.{Extent}
-use Rattle.td_core.specs.declared.module.Extent.TheVariants.{Once, Filling, OnceFilling, UpToZero}
-use Rattle.td_core.specs.declared.module.CopyOut.{CopyOut}
-use Rattle.td_core.specs.declared.module.Bits.{Bits}
-use Rattle.td_core.specs.declared.module.Param.{Param}
-use Rattle.td_core.specs.declared.module.CellKind.{CellKind}
-use Rattle.td_core.specs.declared.module.CellKind.TheVariants.{Number as NumberCell, Pointer as PointerCell}
-use Rattle.td_core.specs.declared.module.Cell.{Cell}
-use Rattle.td_core.specs.declared.module.Part.{Part}
-use Rattle.td_core.specs.declared.module.Field.{Field}
-use Rattle.td_core.specs.declared.module.TypeDef.{TypeDef}
 use Rattle.td_core.specs.Types.{bits, limit, type_of}
 use Rattle.td_core.specs.Formed.{Bound, scalar_of, whole, cell_bound, param_bounds, cell_bounds, bits_bound, part_bound, parts_scope, IsScoped, IsOptionScoped, IsActionFormed, ArePartsFormed, AreArgsFormed, AreCellsFormed, params_at, own_at, IsElementFormed, IsExtentFormed, AreFieldsFormed}
 use Rattle.td_elab_rules.specs.declared.fields.Readable.{Readable}

@@ -4,24 +4,14 @@ use Rattle.std.proofs.lemmas.Bool.{leb-true, ltb-true, and_parts}
 use Rattle.std.proofs.lemmas.Option.{none-some, same_Some}
 use Rattle.std.specs.Str.{bytes_eq}
 use Rattle.td_num.specs.Numbers.{bytes_in}
-use Rattle.td_num.specs.declared.number.NumberType.{NumberType}
+use Rattle.td_elab_rules.specs.Imports.{NumberType, TypeKind, TypeTree, ExtentTree, Enum, Element, Extent, Once, Filling, OnceFilling, UpToZero, Bits, Part, TypeDef}
 use Rattle.td_num.specs.Lists.{Each}
 use Rattle.td_ast.specs.Extents.{is_array}
 use Rattle.td_ast.specs.Trees.{Tree}
-use Rattle.td_ast.specs.declared.fields.TypeKind.{TypeKind}
 use Rattle.td_ast.specs.declared.fields.TypeKind.TheVariants as type
-use Rattle.td_ast.specs.declared.fields.TypeTree.{TypeTree}
-use Rattle.td_ast.specs.declared.fields.ExtentTree.{ExtentTree}
 use Rattle.td_ast.specs.declared.fields.ExtentTree.TheVariants as after_name
-use Rattle.td_ast.specs.declared.definitions.Def.TheVariants.{Enum}
 use Rattle.td_core.specs.Term.{Term}
-use Rattle.td_core.specs.declared.module.Element.{Element}
 use Rattle.td_core.specs.declared.module.Element.TheVariants as element
-use Rattle.td_core.specs.declared.module.Extent.{Extent}
-use Rattle.td_core.specs.declared.module.Extent.TheVariants.{Once, Filling, OnceFilling, UpToZero}
-use Rattle.td_core.specs.declared.module.Bits.{Bits}
-use Rattle.td_core.specs.declared.module.Part.{Part}
-use Rattle.td_core.specs.declared.module.TypeDef.{TypeDef}
 use Rattle.td_core.specs.WellFormed.{IsRefinable, IsZeroEnded, IsEnumThere}
 use Rattle.td_names.specs.Names.{looked_up}
 use Rattle.td_elab_rules.specs.declared.fields.Readable.{Readable}

@@ -5,28 +5,11 @@ use Rattle.std.proofs.lemmas.Bool.{leb-true, ltb-true, and_parts}
 use Rattle.std.proofs.lemmas.Option.{none-some, same_Some, slice_get_within}
 use Rattle.td_num.specs.Lists.{Each}
 use Rattle.td_num.proofs.Lists.{each_append}
-use Rattle.td_num.specs.declared.number.NumberType.{NumberType}
-use Rattle.td_num.specs.declared.number.Width.{Width}
-use Rattle.td_ast.specs.declared.fields.FieldTree.{FieldTree}
-use Rattle.td_ast.specs.declared.parameters.ParamTree.{ParamTree}
+use Rattle.td_elab_rules.specs.Imports.{NumberType, Width, FieldTree, ParamTree, ItemTree, CaseTree, EnumTree, StructTree, CasetypeTree, Def, Define, Enum, Alias, Struct, Casetype, Output, ModuleTree, ThirtyTwo, Param, CellKind, Cell, Buffer, TypeDef}
 use Rattle.td_ast.specs.declared.parameters.ParamTree.TheVariants as param
-use Rattle.td_ast.specs.declared.definitions.ItemTree.{ItemTree}
-use Rattle.td_ast.specs.declared.definitions.CaseTree.{CaseTree}
-use Rattle.td_ast.specs.declared.definitions.EnumTree.{EnumTree}
-use Rattle.td_ast.specs.declared.definitions.StructTree.{StructTree}
-use Rattle.td_ast.specs.declared.definitions.CasetypeTree.{CasetypeTree}
-use Rattle.td_ast.specs.declared.definitions.Def.{Def}
-use Rattle.td_ast.specs.declared.definitions.Def.TheVariants.{Define, Enum, Alias, Struct, Casetype, Output}
-use Rattle.td_ast.specs.declared.definitions.ModuleTree.{ModuleTree}
-use Rattle.td_core.specs.declared.expressions.Scalar.TheVariants.{ThirtyTwo}
-use Rattle.td_core.specs.declared.module.Param.{Param}
-use Rattle.td_core.specs.declared.module.CellKind.{CellKind}
 use Rattle.td_core.specs.declared.module.CellKind.TheVariants as kind
-use Rattle.td_core.specs.declared.module.Cell.{Cell}
-use Rattle.td_core.specs.declared.module.Buffer.{Buffer}
 use Rattle.td_core.specs.declared.limits.TheConstants.{MOST_ROOM}
 use Rattle.td_core.specs.WellFormed.{OfSome}
-use Rattle.td_core.specs.declared.module.TypeDef.{TypeDef}
 use Rattle.td_core.specs.Formed.{Bound, scalar_of, whole, cell_bound, param_bounds, cell_bounds, buffer_bounds, AreCasesFormed, IsDefaultFormed, IsBodyFormed, IsDefinitionFormed, IsModuleFormed}
 use Rattle.td_elab_rules.specs.declared.known.CellType.{CellType}
 use Rattle.td_elab_rules.specs.declared.known.CellType.TheVariants as cell

@@ -1,38 +1,17 @@
 -- In a module that a tree stands for, truth values stand where truth values must, and numbers where numbers must.
 use Rattle.std.proofs.Common.{◌≡◌, ◌≢◌, ℕ, Bool, true, false, cond, ◌&&◌, List, [], ◌∷◌, ◌++◌, length, refl, sym, subst, Option, Some, None, nat_le, slice_get}
-use Rattle.td_num.specs.declared.number.NumberType.{NumberType}
-use Rattle.td_num.specs.declared.number.Width.{Width}
+use Rattle.td_elab_rules.specs.Imports.{NumberType, Width, Span, Assigned, Value as Stored, FieldPtr, ActionTree, Done, Copied, TypeKind, TypeTree, ExtentTree, FieldTree, ParamTree, ItemTree, CaseTree, StructTree, CasetypeTree, Def, Define, Enum, Alias, Struct, Casetype, Output, Scalar, Truth, Element, TypeDef}
 use Rattle.td_num.specs.Lists.{Each}
 use Rattle.td_ast.specs.Extents.{is_array}
 use Rattle.td_ast.specs.Trees.{Tree}
 use Rattle.td_ast.specs.Statements.{Statement, Store, StoreField, Var, If, IfElse, Return, Abort, Statements, End, More, block_of}
-use Rattle.td_ast.specs.declared.token.Span.{Span}
-use Rattle.td_ast.specs.declared.actions.Assigned.{Assigned}
-use Rattle.td_ast.specs.declared.actions.Assigned.TheVariants.{Value as Stored, FieldPtr}
-use Rattle.td_ast.specs.declared.actions.ActionTree.{ActionTree}
-use Rattle.td_ast.specs.declared.actions.ActionTree.TheVariants.{Done, Copied}
-use Rattle.td_ast.specs.declared.fields.TypeKind.{TypeKind}
 use Rattle.td_ast.specs.declared.fields.TypeKind.TheVariants as type
-use Rattle.td_ast.specs.declared.fields.TypeTree.{TypeTree}
-use Rattle.td_ast.specs.declared.fields.ExtentTree.{ExtentTree}
 use Rattle.td_ast.specs.declared.fields.ExtentTree.TheVariants as after_name
-use Rattle.td_ast.specs.declared.fields.FieldTree.{FieldTree}
-use Rattle.td_ast.specs.declared.parameters.ParamTree.{ParamTree}
 use Rattle.td_ast.specs.declared.parameters.ParamTree.TheVariants as param
-use Rattle.td_ast.specs.declared.definitions.ItemTree.{ItemTree}
-use Rattle.td_ast.specs.declared.definitions.CaseTree.{CaseTree}
-use Rattle.td_ast.specs.declared.definitions.StructTree.{StructTree}
-use Rattle.td_ast.specs.declared.definitions.CasetypeTree.{CasetypeTree}
-use Rattle.td_ast.specs.declared.definitions.Def.{Def}
-use Rattle.td_ast.specs.declared.definitions.Def.TheVariants.{Define, Enum, Alias, Struct, Casetype, Output}
-use Rattle.td_core.specs.declared.expressions.Scalar.{Scalar}
-use Rattle.td_core.specs.declared.expressions.Scalar.TheVariants.{Truth}
 use Rattle.td_core.specs.Term.{Term, Deed, set}
 use Rattle.td_core.specs.Types.{bits, type_of}
 use Rattle.td_core.specs.Formed.{scalar_of}
-use Rattle.td_core.specs.declared.module.Element.{Element}
 use Rattle.td_core.specs.declared.module.Element.TheVariants as element
-use Rattle.td_core.specs.declared.module.TypeDef.{TypeDef}
 use Rattle.td_core.specs.WellFormed.{OfSome, IsSorted, IsDeedSorted, IsElementSorted, IsExtentSorted, IsPartSorted, IsFieldSorted, IsDefinitionSorted}
 use Rattle.td_elab_rules.specs.declared.actions.Target.{Target}
 use Rattle.td_elab_rules.specs.declared.actions.Target.TheVariants as target

@@ -2,12 +2,7 @@
 use Rattle.std.proofs.Common.{ℕ, Bool, true, false, if◌then◌else◌, List, [], ◌∷◌, ◌++◌, Option, Some, None, Contains, subst, sym, ap, arith}
 use Rattle.std.proofs.lemmas.List.Elements.{Contains-get_or, Contains-append_right}
 use Rattle.td_num.specs.Lists.{Each}
-use Rattle.td_ast.specs.declared.fields.FieldTree.{FieldTree}
-use Rattle.td_ast.specs.declared.parameters.ParamTree.{ParamTree}
-use Rattle.td_ast.specs.declared.definitions.SlotTree.{SlotTree}
-use Rattle.td_ast.specs.declared.definitions.CaseTree.{CaseTree}
-use Rattle.td_ast.specs.declared.definitions.Def.{Def}
-use Rattle.td_ast.specs.declared.definitions.Def.TheVariants.{Define, Enum, Alias, Struct, Casetype, Output}
+use Rattle.td_elab_rules.specs.Imports.{FieldTree, ParamTree, SlotTree, CaseTree, Def, Define, Enum, Alias, Struct, Casetype, Output}
 use Rattle.td_names.specs.Names.{is_seen, with_name}
 use Rattle.td_elab_rules.specs.Records.{with_slots}
 use Rattle.td_elab_rules.specs.Modules.{param_name, see_params, see_fields, see_cases, see_default, see_definition, all_names}

@@ -6,19 +6,8 @@ use Rattle.std.proofs.lemmas.List.Folds.{list_any-append}
 use Rattle.std.proofs.lemmas.Option.{none-some, same_Some}
 use Rattle.std.specs.Str.{bytes_eq}
 use Rattle.td_num.specs.Lists.{Each}
-use Rattle.td_ast.specs.declared.fields.FieldTree.{FieldTree}
-use Rattle.td_ast.specs.declared.parameters.ParamTree.{ParamTree}
+use Rattle.td_elab_rules.specs.Imports.{FieldTree, ParamTree, ItemTree, SlotTree, CaseTree, StructTree, CasetypeTree, Def, Define, Enum, Alias, Struct, Casetype, Output, ModuleTree, Cell, Part}
 use Rattle.td_ast.specs.declared.parameters.ParamTree.TheVariants as param
-use Rattle.td_ast.specs.declared.definitions.ItemTree.{ItemTree}
-use Rattle.td_ast.specs.declared.definitions.SlotTree.{SlotTree}
-use Rattle.td_ast.specs.declared.definitions.CaseTree.{CaseTree}
-use Rattle.td_ast.specs.declared.definitions.StructTree.{StructTree}
-use Rattle.td_ast.specs.declared.definitions.CasetypeTree.{CasetypeTree}
-use Rattle.td_ast.specs.declared.definitions.Def.{Def}
-use Rattle.td_ast.specs.declared.definitions.Def.TheVariants.{Define, Enum, Alias, Struct, Casetype, Output}
-use Rattle.td_ast.specs.declared.definitions.ModuleTree.{ModuleTree}
-use Rattle.td_core.specs.declared.module.Cell.{Cell}
-use Rattle.td_core.specs.declared.module.Part.{Part}
 use Rattle.td_core.specs.WellFormed.{OfSome, IsNameThere, IsDefinitionNamed}
 use Rattle.td_names.specs.Names.{is_seen, with_name, number_of}
 use Rattle.td_names.proofs.Naming.{number_below}

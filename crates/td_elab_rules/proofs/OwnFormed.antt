@@ -4,14 +4,8 @@ use Rattle.std.proofs.lemmas.Bool.{and_parts, eqb-true, false≢true}
 use Rattle.std.proofs.lemmas.List.{length-map}
 use Rattle.std.proofs.lemmas.Option.{none-some, same_Some}
 use Rattle.td_num.specs.Numbers.{bytes_in}
-use Rattle.td_num.specs.declared.number.Width.{Width}
+use Rattle.td_elab_rules.specs.Imports.{Width, ThirtyTwo, CellKind, Number as NumberCell, Pointer as PointerCell, Cell, Buffer, TypeDef}
 use Rattle.td_num.specs.declared.number.Width.TheVariants.{One, Two, Four, Eight}
-use Rattle.td_core.specs.declared.expressions.Scalar.TheVariants.{ThirtyTwo}
-use Rattle.td_core.specs.declared.module.CellKind.{CellKind}
-use Rattle.td_core.specs.declared.module.CellKind.TheVariants.{Number as NumberCell, Pointer as PointerCell}
-use Rattle.td_core.specs.declared.module.Cell.{Cell}
-use Rattle.td_core.specs.declared.module.Buffer.{Buffer}
-use Rattle.td_core.specs.declared.module.TypeDef.{TypeDef}
 use Rattle.td_core.specs.Formed.{Bound, scalar_of, whole, cell_bound, cell_bounds, buffer_bounds, own_bounds, AreCellsFormed}
 use Rattle.td_elab_rules.specs.declared.known.Scope.{Scope}
 use Rattle.td_elab_rules.specs.Types.{same_kind, is_kind, fits_cells, has_room, fits_buffers, buffer_cells}

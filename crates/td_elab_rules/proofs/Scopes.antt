@@ -3,18 +3,12 @@ use Rattle.std.proofs.Common.{◌≡◌, ℕ, zero, suc, ◌+◌, ◌-◌, ◌<�
 use Rattle.std.specs.Str.{bytes_eq}
 use Rattle.std.proofs.lemmas.Bool.{ltb-true}
 use Rattle.std.proofs.lemmas.Option.{none-some, same_Some}
-use Rattle.td_num.specs.declared.number.NumberType.{NumberType}
-use Rattle.td_ast.specs.declared.expressions.UnaryOperator.{UnaryOperator}
-use Rattle.td_ast.specs.declared.expressions.UnaryOperator.TheVariants.{Not, Complement}
-use Rattle.td_ast.specs.declared.token.Span.{Span}
+use Rattle.td_elab_rules.specs.Imports.{NumberType, UnaryOperator, Not, Complement, Span, Scalar, Truth, Eight, Sixteen, ThirtyTwo, SixtyFour, CellKind}
 use Rattle.td_ast.specs.Trees.{Tree}
 use Rattle.td_ast.specs.Trees as tree
-use Rattle.td_core.specs.declared.expressions.Scalar.{Scalar}
-use Rattle.td_core.specs.declared.expressions.Scalar.TheVariants.{Truth, Eight, Sixteen, ThirtyTwo, SixtyFour}
 use Rattle.td_core.specs.Term.{Term, number}
 use Rattle.td_core.specs.Types.{limit, wider, type_of}
 use Rattle.td_core.specs.Formed.{Bound, scalar_of, whole, cell_bound, IsScoped, IsOptionScoped}
-use Rattle.td_core.specs.declared.module.CellKind.{CellKind}
 use Rattle.td_names.specs.Names.{looked_up, declared}
 use Rattle.td_elab_rules.specs.declared.expressions.Sort.{Sort}
 use Rattle.td_elab_rules.specs.declared.expressions.Sort.TheVariants as sort

@@ -2,18 +2,11 @@
 use Rattle.std.proofs.Common.{◌≡◌, ◌≢◌, ℕ, ◌+◌, Bool, true, false, cond, not, ◌&&◌, ◌||◌, if◌then◌else◌, List, [], ◌∷◌, ◌++◌, refl, sym, ◌∙◌, subst, Option, Some, None, is_some, is_none, nat_lt, nat_le}
 use Rattle.std.proofs.lemmas.Option.{none-some, same_Some}
 use Rattle.std.specs.Str.{bytes_eq}
-use Rattle.td_num.specs.declared.number.Width.{Width}
+use Rattle.td_elab_rules.specs.Imports.{Width, UnaryOperator, Not, Complement, SizeofOperand, Span, Scalar, Truth, Eight, Sixteen, ThirtyTwo, SixtyFour, Binary}
 use Rattle.td_num.specs.declared.number.Width.TheVariants.{One, Two, Four, Eight as EightBytes}
-use Rattle.td_ast.specs.declared.expressions.UnaryOperator.{UnaryOperator}
-use Rattle.td_ast.specs.declared.expressions.UnaryOperator.TheVariants.{Not, Complement}
-use Rattle.td_ast.specs.declared.expressions.SizeofOperand.{SizeofOperand}
 use Rattle.td_ast.specs.declared.expressions.SizeofOperand.TheVariants as operand
-use Rattle.td_ast.specs.declared.token.Span.{Span}
 use Rattle.td_ast.specs.Trees.{Tree, span_of}
 use Rattle.td_ast.specs.Trees as tree
-use Rattle.td_core.specs.declared.expressions.Scalar.{Scalar}
-use Rattle.td_core.specs.declared.expressions.Scalar.TheVariants.{Truth, Eight, Sixteen, ThirtyTwo, SixtyFour}
-use Rattle.td_core.specs.declared.expressions.Binary.{Binary}
 use Rattle.td_core.specs.declared.expressions.Binary.TheVariants as binary
 use Rattle.td_core.specs.Term.{Term, number}
 use Rattle.td_core.specs.Types.{bits, limit, wider, computed_type, type_of}
@@ -66,11 +59,11 @@ wider_number v w h g = by (nat_le (bits v) (bits w))
     by false = h
 
 computed_number : (op : Binary) (v w : Scalar) → v ≢ Truth → w ≢ Truth → computed_type op v w ≢ Truth
-computed_number binary.Plus v w h g = wider_number v w h g
-computed_number binary.Minus v w h g = wider_number v w h g
-computed_number binary.Times v w h g = wider_number v w h g
-computed_number binary.Over v w h g = wider_number v w h g
-computed_number binary.Modulo v w h g = wider_number v w h g
+computed_number binary.Add v w h g = wider_number v w h g
+computed_number binary.Subtract v w h g = wider_number v w h g
+computed_number binary.Multiply v w h g = wider_number v w h g
+computed_number binary.Divide v w h g = wider_number v w h g
+computed_number binary.Remainder v w h g = wider_number v w h g
 computed_number binary.BitAnd v w h g = wider_number v w h g
 computed_number binary.BitOr v w h g = wider_number v w h g
 computed_number binary.BitXor v w h g = wider_number v w h g

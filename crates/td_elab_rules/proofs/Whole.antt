@@ -1,16 +1,7 @@
 -- Each field of a tree's module has a part, and each entry point a definition. Cited by other crates.
 use Rattle.std.proofs.Common.{◌≡◌, ℕ, ◌+◌, ◌<◌, ◌≤◌, Bool, true, false, cond, List, [], ◌∷◌, ◌++◌, length, refl, sym, subst, arith, Option, Some, None, length-append}
-use Rattle.td_num.specs.declared.number.NumberType.{NumberType}
+use Rattle.td_elab_rules.specs.Imports.{NumberType, FieldTree, ItemTree, CaseTree, Def, Define, Enum, Alias, Struct, Casetype, Output, ModuleTree, Field, Part, TypeDef}
 use Rattle.td_num.specs.Lists.{Each}
-use Rattle.td_ast.specs.declared.fields.FieldTree.{FieldTree}
-use Rattle.td_ast.specs.declared.definitions.ItemTree.{ItemTree}
-use Rattle.td_ast.specs.declared.definitions.CaseTree.{CaseTree}
-use Rattle.td_ast.specs.declared.definitions.Def.{Def}
-use Rattle.td_ast.specs.declared.definitions.Def.TheVariants.{Define, Enum, Alias, Struct, Casetype, Output}
-use Rattle.td_ast.specs.declared.definitions.ModuleTree.{ModuleTree}
-use Rattle.td_core.specs.declared.module.Field.{Field}
-use Rattle.td_core.specs.declared.module.Part.{Part}
-use Rattle.td_core.specs.declared.module.TypeDef.{TypeDef}
 use Rattle.td_core.specs.WellFormed.{OfSome, EachField, HasParts, IsWhole}
 use Rattle.td_elab_rules.specs.declared.fields.FlatField.{FlatField}
 use Rattle.td_elab_rules.specs.declared.fields.OpenUnit.{OpenUnit}

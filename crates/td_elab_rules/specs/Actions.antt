@@ -2,18 +2,11 @@
 -- `field_ptr`).
 use Rattle.std.specs.Prelude.{ℕ, ◌+◌, ◌-◌, Bool, true, false, cond, not, ◌||◌, ◌&&◌, nat_le, List, [], ◌∷◌, ◌++◌, Option, Some, None}
 use Rattle.std.specs.Str.{bytes_eq}
-use Rattle.td_num.specs.declared.number.NumberType.{NumberType}
-use Rattle.td_ast.specs.declared.token.Span.{Span}
-use Rattle.td_ast.specs.declared.names.Name.{Name}
-use Rattle.td_ast.specs.declared.actions.Assigned.{Assigned}
-use Rattle.td_ast.specs.declared.actions.Assigned.TheVariants.{Value, FieldPtr}
+use Rattle.td_elab_rules.specs.Imports.{NumberType, Span, Name, Assigned, Value, FieldPtr, ActionTree, Done, Copied, ThirtyTwo}
 use Rattle.td_ast.specs.declared.actions.ActionKind.{ActionKind}
 use Rattle.td_ast.specs.declared.actions.ActionKind.TheVariants.{Act, Check, OnSuccess}
-use Rattle.td_ast.specs.declared.actions.ActionTree.{ActionTree}
-use Rattle.td_ast.specs.declared.actions.ActionTree.TheVariants.{Done, Copied}
 use Rattle.td_ast.specs.Trees.{span_of}
 use Rattle.td_ast.specs.Statements.{Statement, Store, StoreField, Var, If, IfElse, Return, Abort, Statements, End, More, block_of}
-use Rattle.td_core.specs.declared.expressions.Scalar.TheVariants.{ThirtyTwo}
 use Rattle.td_core.specs.Term.{Deed, done, set, keep, fork, answer, give_up}
 use Rattle.td_core.specs.Types.{bits, limit, type_of}
 use Rattle.td_core.specs.Formed.{scalar_of}

@@ -1,10 +1,9 @@
 -- The rules of other names for types (3D manual, "Type definitions"): of a number type, an enum, or a struct or casetype
 -- without parameters.
 use Rattle.std.specs.Prelude.{ℕ, ◌+◌, not, ◌&&◌, List, [], ◌∷◌, ◌++◌, Option, Some, None, is_none}
-use Rattle.td_ast.specs.declared.names.PlainTree.{PlainTree}
+use Rattle.td_elab_rules.specs.Imports.{PlainTree, Span}
 use Rattle.td_ast.specs.declared.names.PlainTree.TheVariants.{Number, Named}
 use Rattle.td_ast.specs.declared.definitions.AliasTree.{AliasTree}
-use Rattle.td_ast.specs.declared.token.Span.{Span}
 use Rattle.td_elab_rules.specs.declared.breach.Rule.TheVariants.{Unknown, Mismatch}
 use Rattle.td_elab_rules.specs.declared.breach.Breach.{Breach}
 use Rattle.td_elab_rules.specs.declared.known.Parameter.{Parameter}

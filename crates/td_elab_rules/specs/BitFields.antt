@@ -2,15 +2,8 @@
 -- weight, big-endian ones from the one of most).
 use Rattle.std.specs.Prelude.{ℕ, ◌+◌, ◌-◌, ◌*◌, Bool, false, cond, ◌&&◌, nat_le, List, [], ◌∷◌, ◌++◌, Option, Some, None}
 use Rattle.td_num.specs.Numbers.{bytes_in}
-use Rattle.td_num.specs.declared.number.NumberType.{NumberType}
-use Rattle.td_num.specs.declared.number.ByteOrder.{ByteOrder}
-use Rattle.td_num.specs.declared.number.ByteOrder.TheVariants.{LittleEndian, BigEndian}
-use Rattle.td_core.specs.declared.module.Element.{Element}
+use Rattle.td_elab_rules.specs.Imports.{NumberType, ByteOrder, LittleEndian, BigEndian, Element, Once, Bits, Part, Field}
 use Rattle.td_core.specs.declared.module.Element.TheVariants as element
-use Rattle.td_core.specs.declared.module.Extent.TheVariants.{Once}
-use Rattle.td_core.specs.declared.module.Bits.{Bits}
-use Rattle.td_core.specs.declared.module.Part.{Part}
-use Rattle.td_core.specs.declared.module.Field.{Field}
 use Rattle.td_elab_rules.specs.declared.fields.FlatField.{FlatField}
 use Rattle.td_elab_rules.specs.declared.fields.UnitRoom.{UnitRoom}
 use Rattle.td_elab_rules.specs.declared.fields.OpenUnit.{OpenUnit}

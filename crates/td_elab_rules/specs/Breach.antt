@@ -1,7 +1,7 @@
 -- Breaches: a rule, and the place at which it is broken. The first is the least by place, then by rule (own rule: of
 -- several refusals the first in the order of the source, and at one place that of the lower code).
 use Rattle.std.specs.Prelude.{◌≡◌, ℕ, Bool, true, false, List, [], ◌∷◌, Option, Some, None, if◌then◌else◌, nat_lt, nat_eq, Contains, All, codes}
-use Rattle.td_ast.specs.declared.token.Span.{Span}
+use Rattle.td_elab_rules.specs.Imports.{Span}
 use Rattle.td_elab_rules.specs.declared.breach.Rule.{Rule}
 use Rattle.td_elab_rules.specs.declared.breach.Rule.TheVariants.{Unknown, Twice, NotReadable, WrongArgs, Mismatch, Narrowing, NotConstant, BadAction}
 use Rattle.td_elab_rules.specs.declared.breach.Breach.{Breach}

@@ -1,12 +1,7 @@
 -- The rules of casetypes (3D manual, "Casetypes"): the value of a case is a constant, and fits the type of the switch.
 use Rattle.std.specs.Prelude.{ℕ, Bool, false, List, [], ◌∷◌, ◌++◌, Option, Some, None}
-use Rattle.td_ast.specs.declared.names.ConstTree.{ConstTree}
-use Rattle.td_ast.specs.declared.fields.FieldTree.{FieldTree}
-use Rattle.td_ast.specs.declared.definitions.CaseTree.{CaseTree}
-use Rattle.td_ast.specs.declared.definitions.CasetypeTree.{CasetypeTree}
-use Rattle.td_core.specs.declared.expressions.Scalar.{Scalar}
+use Rattle.td_elab_rules.specs.Imports.{ConstTree, FieldTree, CaseTree, CasetypeTree, Scalar, Field}
 use Rattle.td_core.specs.declared.module.Case.{Case}
-use Rattle.td_core.specs.declared.module.Field.{Field}
 use Rattle.td_core.specs.declared.module.Body.{Body}
 use Rattle.td_core.specs.declared.module.Body.TheVariants.{Casetype}
 use Rattle.td_elab_rules.specs.declared.breach.Rule.TheVariants.{Twice, Narrowing}

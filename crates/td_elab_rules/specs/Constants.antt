@@ -1,11 +1,8 @@
 -- The rules of what stands at a constant's place, and of distinct names (3D manual, "Constants", "Enums").
 use Rattle.std.specs.Prelude.{ℕ, Bool, false, not, ◌||◌, ◌&&◌, nat_le, List, [], ◌++◌, Option, Some, None, is_some, is_none}
-use Rattle.td_ast.specs.declared.names.ConstTree.{ConstTree}
+use Rattle.td_elab_rules.specs.Imports.{ConstTree, Name, Span, Scalar}
 use Rattle.td_ast.specs.declared.names.ConstTree.TheVariants.{Number, Named}
-use Rattle.td_ast.specs.declared.names.Name.{Name}
-use Rattle.td_ast.specs.declared.token.Span.{Span}
 use Rattle.td_core.specs.Types.{limit}
-use Rattle.td_core.specs.declared.expressions.Scalar.{Scalar}
 use Rattle.td_names.specs.Names.{is_seen, looked_up, declared}
 use Rattle.td_names.specs.Numbers.{is_among, with_number}
 use Rattle.td_elab_rules.specs.declared.breach.Rule.TheVariants.{Unknown, Twice, NotConstant}

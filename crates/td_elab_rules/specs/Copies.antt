@@ -1,14 +1,8 @@
 -- The rules of copied fields, and the core copies (own rule): the bytes of a byte-sized array of `UINT8` go to a copy buffer
 -- of the definition.
 use Rattle.std.specs.Prelude.{ℕ, ◌+◌, ◌*◌, Bool, true, false, cond, not, List, [], ◌++◌, length, Option, Some, None, slice_get}
-use Rattle.td_ast.specs.declared.token.Span.{Span}
-use Rattle.td_ast.specs.declared.actions.ActionTree.{ActionTree}
-use Rattle.td_ast.specs.declared.actions.ActionTree.TheVariants.{Done, Copied}
-use Rattle.td_ast.specs.declared.fields.TypeTree.{TypeTree}
-use Rattle.td_ast.specs.declared.fields.ExtentTree.{ExtentTree}
+use Rattle.td_elab_rules.specs.Imports.{Span, ActionTree, Done, Copied, TypeTree, ExtentTree, FieldTree, CopyOut}
 use Rattle.td_ast.specs.declared.fields.ExtentTree.TheVariants.{Bytes, ByteSize, SingleElement, Zeroterm, Bits}
-use Rattle.td_ast.specs.declared.fields.FieldTree.{FieldTree}
-use Rattle.td_core.specs.declared.module.CopyOut.{CopyOut}
 use Rattle.td_elab_rules.specs.declared.breach.Rule.TheVariants.{Unknown, WrongArgs, BadAction}
 use Rattle.td_elab_rules.specs.declared.breach.Breach.{Breach}
 use Rattle.td_elab_rules.specs.declared.known.Local.TheVariants as local

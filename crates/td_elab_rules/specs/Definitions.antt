@@ -1,12 +1,7 @@
 -- The rules of definitions, and what is known after each (3D manual, "Modules"; own rule: each names earlier ones only).
 use Rattle.std.specs.Prelude.{ℕ, ◌+◌, Bool, true, false, List, [], ◌∷◌, ◌++◌, length, Some, None}
-use Rattle.td_ast.specs.declared.fields.FieldTree.{FieldTree}
+use Rattle.td_elab_rules.specs.Imports.{FieldTree, StructTree, CasetypeTree, Def, Define, Enum, Alias, Struct, Casetype, Output, TypeDef}
 use Rattle.td_ast.specs.declared.definitions.DefineTree.{DefineTree}
-use Rattle.td_ast.specs.declared.definitions.StructTree.{StructTree}
-use Rattle.td_ast.specs.declared.definitions.CasetypeTree.{CasetypeTree}
-use Rattle.td_ast.specs.declared.definitions.Def.{Def}
-use Rattle.td_ast.specs.declared.definitions.Def.TheVariants.{Define, Enum, Alias, Struct, Casetype, Output}
-use Rattle.td_core.specs.declared.module.TypeDef.{TypeDef}
 use Rattle.td_core.specs.declared.module.Body.TheVariants.{Struct as StructBody}
 use Rattle.td_kinds.specs.Kinds.{body_kind}
 use Rattle.td_names.specs.Names.{with_name, number_of}

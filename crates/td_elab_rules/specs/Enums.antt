@@ -1,13 +1,8 @@
 -- The rules of enums (3D manual, "Enums"; own rule: a name without a value is one more than the one before, and the first
 -- is 0).
 use Rattle.std.specs.Prelude.{ℕ, ◌+◌, ◌^◌, Bool, true, cond, nat_lt, List, [], ◌∷◌, ◌++◌, length, Option, Some, None}
-use Rattle.td_num.specs.declared.number.NumberType.{NumberType}
-use Rattle.td_ast.specs.declared.token.Span.{Span}
-use Rattle.td_ast.specs.declared.names.ConstTree.{ConstTree}
-use Rattle.td_ast.specs.declared.definitions.ItemTree.{ItemTree}
-use Rattle.td_ast.specs.declared.definitions.EnumTree.{EnumTree}
+use Rattle.td_elab_rules.specs.Imports.{NumberType, Span, ConstTree, ItemTree, EnumTree, Scalar}
 use Rattle.td_core.specs.Formed.{scalar_of}
-use Rattle.td_core.specs.declared.expressions.Scalar.{Scalar}
 use Rattle.td_elab_rules.specs.declared.breach.Rule.TheVariants.{Twice, Narrowing}
 use Rattle.td_elab_rules.specs.declared.breach.Breach.{Breach}
 use Rattle.td_elab_rules.specs.declared.known.Meaning.TheVariants as meaning

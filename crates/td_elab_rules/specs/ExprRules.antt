@@ -1,14 +1,10 @@
 -- The rules of expressions: for each the list of its breaches (own rules, after the 3D manual). Their order in these
 -- lists means nothing, as the least is named.
 use Rattle.std.specs.Prelude.{Bool, true, false, not, ◌||◌, ◌&&◌, nat_lt, List, [], ◌++◌, Option, Some, None, is_none}
-use Rattle.td_ast.specs.declared.expressions.UnaryOperator.{UnaryOperator}
-use Rattle.td_ast.specs.declared.expressions.UnaryOperator.TheVariants.{Not, Complement}
-use Rattle.td_ast.specs.declared.expressions.SizeofOperand.{SizeofOperand}
+use Rattle.td_elab_rules.specs.Imports.{UnaryOperator, Not, Complement, SizeofOperand, Span, Scalar}
 use Rattle.td_ast.specs.declared.expressions.SizeofOperand.TheVariants as operand
-use Rattle.td_ast.specs.declared.token.Span.{Span}
 use Rattle.td_ast.specs.Trees.{Tree, span_of}
 use Rattle.td_ast.specs.Trees as tree
-use Rattle.td_core.specs.declared.expressions.Scalar.{Scalar}
 use Rattle.td_core.specs.Types.{bits}
 use Rattle.td_elab_rules.specs.declared.breach.Rule.TheVariants.{Unknown, NotReadable, Mismatch, Narrowing, NotConstant, BadAction}
 use Rattle.td_elab_rules.specs.declared.breach.Breach.{Breach}

@@ -2,15 +2,10 @@
 -- structures", "Bitfields"; own rules: `[e]`, the bound of zero-terminated arrays).
 use Rattle.std.specs.Prelude.{ℕ, ◌*◌, Bool, cond, not, ◌&&◌, nat_le, nat_lt, List, [], ◌++◌, Option, Some, None, is_none}
 use Rattle.td_num.specs.Numbers.{bytes_in}
-use Rattle.td_num.specs.declared.number.NumberType.{NumberType}
-use Rattle.td_ast.specs.declared.fields.TypeTree.{TypeTree}
-use Rattle.td_ast.specs.declared.fields.ExtentTree.{ExtentTree}
+use Rattle.td_elab_rules.specs.Imports.{NumberType, TypeTree, ExtentTree, Element, Extent, Once, Filling, OnceFilling, UpToZero}
 use Rattle.td_ast.specs.declared.fields.ExtentTree.TheVariants.{Bytes, ByteSize, SingleElement, Zeroterm, Bits}
 use Rattle.td_core.specs.Term.{Term}
-use Rattle.td_core.specs.declared.module.Element.{Element}
 use Rattle.td_core.specs.declared.module.Element.TheVariants as element
-use Rattle.td_core.specs.declared.module.Extent.{Extent}
-use Rattle.td_core.specs.declared.module.Extent.TheVariants.{Once, Filling, OnceFilling, UpToZero}
 use Rattle.td_kinds.specs.Kinds.{element_kind, constant_size}
 use Rattle.td_elab_rules.specs.declared.breach.Rule.TheVariants.{Mismatch, NotConstant}
 use Rattle.td_elab_rules.specs.declared.breach.Breach.{Breach}

@@ -1,15 +1,11 @@
 -- The rules of fields, and the core fields (3D manual, "Structs", "Constraints").
 use Rattle.std.specs.Prelude.{ℕ, ◌+◌, ◌-◌, ◌^◌, cond, ◌||◌, ◌&&◌, List, [], ◌∷◌, ◌++◌, Option, Some, None, is_some, is_none}
-use Rattle.td_num.specs.declared.number.NumberType.{NumberType}
-use Rattle.td_num.specs.declared.number.Width.{Width}
+use Rattle.td_elab_rules.specs.Imports.{NumberType, Width, TypeKind, FieldTree, Field}
 use Rattle.td_ast.specs.Extents.{is_array}
-use Rattle.td_ast.specs.declared.fields.TypeKind.{TypeKind}
 use Rattle.td_ast.specs.declared.fields.TypeKind.TheVariants as type
-use Rattle.td_ast.specs.declared.fields.FieldTree.{FieldTree}
 use Rattle.td_core.specs.Term.{Term}
 use Rattle.td_core.specs.Types.{limit}
 use Rattle.td_core.specs.Formed.{scalar_of}
-use Rattle.td_core.specs.declared.module.Field.{Field}
 use Rattle.td_names.specs.Names.{is_seen, number_of}
 use Rattle.td_elab_rules.specs.declared.breach.Rule.TheVariants.{Twice, NotReadable}
 use Rattle.td_elab_rules.specs.declared.breach.Breach.{Breach}

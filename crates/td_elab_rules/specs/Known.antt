@@ -1,8 +1,7 @@
 -- What names stand for where they are written (3D manual, "Scoping"; own rule: a local hides a definition).
 use Rattle.std.specs.Prelude.{ℕ, ◌+◌, Bool, true, false, List, [], ◌∷◌, ◌++◌, Option, Some, None, slice_get}
-use Rattle.td_core.specs.declared.expressions.Scalar.{Scalar}
+use Rattle.td_elab_rules.specs.Imports.{Scalar, CellKind}
 use Rattle.td_core.specs.declared.kind.Kind.{Kind}
-use Rattle.td_core.specs.declared.module.CellKind.{CellKind}
 use Rattle.td_kinds.specs.Kinds as kinds
 use Rattle.td_names.specs.Names.{looked_up, declared, with_name}
 use Rattle.td_elab_rules.specs.declared.known.Slot.{Slot}

@@ -1,8 +1,7 @@
 -- What holds of each module that a tree stands for.
 use Rattle.std.specs.Prelude.{◌≡◌, length, Contains}
 use Rattle.td_num.specs.Lists.{Each, AreApart}
-use Rattle.td_ast.specs.declared.definitions.ModuleTree.{ModuleTree}
-use Rattle.td_core.specs.declared.module.Module.{Module}
+use Rattle.td_elab_rules.specs.Imports.{ModuleTree, Module}
 use Rattle.td_core.specs.Formed.{IsModuleFormed}
 use Rattle.td_core.specs.Copies.{IsCopying}
 use Rattle.td_core.specs.WellFormed.{EachField, IsWhole, IsFieldWhole, IsDefinitionSorted, IsDefinitionNamed}

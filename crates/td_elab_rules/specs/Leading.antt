@@ -3,14 +3,10 @@
 -- place for that.
 use Rattle.std.specs.Prelude.{ℕ, ◌+◌, Bool, true, false, cond, ◌||◌, is_some, List, [], ◌∷◌, Option, Some, None}
 use Rattle.td_num.specs.Numbers.{bytes_in}
-use Rattle.td_num.specs.declared.number.NumberType.{NumberType}
-use Rattle.td_ast.specs.declared.expressions.SizeofOperand.{SizeofOperand}
+use Rattle.td_elab_rules.specs.Imports.{NumberType, SizeofOperand, TypeKind, ExtentTree, FieldTree}
 use Rattle.td_ast.specs.declared.expressions.SizeofOperand.TheVariants as operand
-use Rattle.td_ast.specs.declared.fields.TypeKind.{TypeKind}
 use Rattle.td_ast.specs.declared.fields.TypeKind.TheVariants as type
-use Rattle.td_ast.specs.declared.fields.ExtentTree.{ExtentTree}
 use Rattle.td_ast.specs.declared.fields.ExtentTree.TheVariants.{Bytes, ByteSize, SingleElement, Zeroterm, Bits}
-use Rattle.td_ast.specs.declared.fields.FieldTree.{FieldTree}
 use Rattle.td_ast.specs.Trees.{Tree}
 use Rattle.td_ast.specs.Trees as tree
 use Rattle.td_expr.specs.Same.{constant_of}

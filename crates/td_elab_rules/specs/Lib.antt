@@ -1,3 +1,4 @@
+pub mod Imports
 pub mod Breach
 pub mod Known
 pub mod Sorts

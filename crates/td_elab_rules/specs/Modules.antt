@@ -1,16 +1,7 @@
 -- The module that a tree stands for (own rule: a tree stands for at most one).
 use Rattle.std.specs.Prelude.{◌≡◌, ℕ, List, [], ◌∷◌, Option, Some, None}
-use Rattle.td_ast.specs.declared.names.Name.{Name}
-use Rattle.td_ast.specs.declared.fields.FieldTree.{FieldTree}
-use Rattle.td_ast.specs.declared.parameters.ParamTree.{ParamTree}
+use Rattle.td_elab_rules.specs.Imports.{Name, FieldTree, ParamTree, CaseTree, StructTree, CasetypeTree, Def, Define, Enum, Alias, Struct, Casetype, Output, ModuleTree, Module}
 use Rattle.td_ast.specs.declared.parameters.ParamTree.TheVariants as param
-use Rattle.td_ast.specs.declared.definitions.CaseTree.{CaseTree}
-use Rattle.td_ast.specs.declared.definitions.StructTree.{StructTree}
-use Rattle.td_ast.specs.declared.definitions.CasetypeTree.{CasetypeTree}
-use Rattle.td_ast.specs.declared.definitions.Def.{Def}
-use Rattle.td_ast.specs.declared.definitions.Def.TheVariants.{Define, Enum, Alias, Struct, Casetype, Output}
-use Rattle.td_ast.specs.declared.definitions.ModuleTree.{ModuleTree}
-use Rattle.td_core.specs.declared.module.Module.{Module}
 use Rattle.td_names.specs.Names.{with_name}
 use Rattle.td_elab_rules.specs.declared.breach.Breach.{Breach}
 use Rattle.td_elab_rules.specs.declared.known.Known.{Known}

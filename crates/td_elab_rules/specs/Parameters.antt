@@ -1,22 +1,14 @@
 -- The rules of parameters (3D manual, "Parameterized data types", "Output parameters"; own rules: flat output records, copy
 -- buffers).
 use Rattle.std.specs.Prelude.{ℕ, ◌-◌, Bool, true, false, cond, not, ◌||◌, ◌&&◌, nat_lt, nat_le, List, [], ◌∷◌, ◌++◌, length, map, Option, Some, None, is_some}
-use Rattle.td_num.specs.declared.number.NumberType.{NumberType}
-use Rattle.td_num.specs.declared.number.Width.{Width}
-use Rattle.td_ast.specs.declared.token.Span.{Span}
-use Rattle.td_ast.specs.declared.names.Name.{Name}
-use Rattle.td_ast.specs.declared.names.ConstTree.{ConstTree}
-use Rattle.td_ast.specs.declared.names.PlainTree.{PlainTree}
+use Rattle.td_elab_rules.specs.Imports.{NumberType, Width, Span, Name, ConstTree, PlainTree, ParamTree, CellKind, Cell}
 use Rattle.td_ast.specs.declared.names.PlainTree.TheVariants as plain
 use Rattle.td_ast.specs.declared.parameters.TargetTree.{TargetTree}
 use Rattle.td_ast.specs.declared.parameters.TargetTree.TheVariants as pointee
-use Rattle.td_ast.specs.declared.parameters.ParamTree.{ParamTree}
 use Rattle.td_ast.specs.declared.parameters.ParamTree.TheVariants as param
 use Rattle.td_core.specs.Types.{limit}
 use Rattle.td_core.specs.Formed.{scalar_of}
-use Rattle.td_core.specs.declared.module.CellKind.{CellKind}
 use Rattle.td_core.specs.declared.module.CellKind.TheVariants as kind
-use Rattle.td_core.specs.declared.module.Cell.{Cell}
 use Rattle.td_core.specs.declared.limits.TheConstants.{MOST_ROOM}
 use Rattle.td_names.specs.Names.{is_seen, number_of}
 use Rattle.td_elab_rules.specs.declared.breach.Rule.TheVariants.{Unknown, Twice, Mismatch, Narrowing}

@@ -1,9 +1,8 @@
 -- The rules of output records (3D manual, "Output types"; own rule: their slots are numbers and pointers).
 use Rattle.std.specs.Prelude.{ℕ, ◌+◌, ◌||◌, List, [], ◌∷◌, ◌++◌, length, map, Option, Some, None}
-use Rattle.td_num.specs.declared.number.NumberType.{NumberType}
+use Rattle.td_elab_rules.specs.Imports.{NumberType, SlotTree}
 use Rattle.td_ast.specs.declared.definitions.SlotKind.{SlotKind}
 use Rattle.td_ast.specs.declared.definitions.SlotKind.TheVariants.{Number, Pointer}
-use Rattle.td_ast.specs.declared.definitions.SlotTree.{SlotTree}
 use Rattle.td_ast.specs.declared.definitions.OutputTree.{OutputTree}
 use Rattle.td_names.specs.Names.{is_seen, with_name}
 use Rattle.td_elab_rules.specs.declared.breach.Rule.TheVariants.{Twice}

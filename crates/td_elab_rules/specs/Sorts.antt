@@ -2,18 +2,12 @@
 -- where it leaves the type of a literal open).
 use Rattle.std.specs.Prelude.{ℕ, ◌-◌, Bool, true, false, cond, nat_lt, Option, Some, None}
 use Rattle.td_num.specs.Numbers.{bytes_in}
-use Rattle.td_ast.specs.declared.expressions.UnaryOperator.{UnaryOperator}
-use Rattle.td_ast.specs.declared.expressions.UnaryOperator.TheVariants.{Not, Complement}
+use Rattle.td_elab_rules.specs.Imports.{UnaryOperator, Not, Complement, SizeofOperand, Span, Scalar, Truth, Eight, Sixteen, ThirtyTwo, SixtyFour, Binary}
 use Rattle.td_ast.specs.declared.expressions.BinaryOperator.{BinaryOperator}
 use Rattle.td_ast.specs.declared.expressions.BinaryOperator.TheVariants as operator
-use Rattle.td_ast.specs.declared.expressions.SizeofOperand.{SizeofOperand}
 use Rattle.td_ast.specs.declared.expressions.SizeofOperand.TheVariants as operand
-use Rattle.td_ast.specs.declared.token.Span.{Span}
 use Rattle.td_ast.specs.Trees.{Tree}
 use Rattle.td_ast.specs.Trees as tree
-use Rattle.td_core.specs.declared.expressions.Scalar.{Scalar}
-use Rattle.td_core.specs.declared.expressions.Scalar.TheVariants.{Truth, Eight, Sixteen, ThirtyTwo, SixtyFour}
-use Rattle.td_core.specs.declared.expressions.Binary.{Binary}
 use Rattle.td_core.specs.declared.expressions.Binary.TheVariants as binary
 use Rattle.td_core.specs.declared.expressions.Relation.TheVariants as relation
 use Rattle.td_core.specs.Term.{Term, number, name, complement, negation, compute, compare, both, either, choice, range_okay}
@@ -33,11 +27,11 @@ use Rattle.td_elab_rules.specs.Known.{found_in, kind_at}
 
 -- what an operator of two operands does
 abbrev pub operation : BinaryOperator → Operation
-operation operator.Multiply = Computes binary.Times
-operation operator.Divide = Computes binary.Over
-operation operator.Remainder = Computes binary.Modulo
-operation operator.Add = Computes binary.Plus
-operation operator.Subtract = Computes binary.Minus
+operation operator.Multiply = Computes binary.Multiply
+operation operator.Divide = Computes binary.Divide
+operation operator.Remainder = Computes binary.Remainder
+operation operator.Add = Computes binary.Add
+operation operator.Subtract = Computes binary.Subtract
 operation operator.ShiftLeft = Computes binary.ShiftLeft
 operation operator.ShiftRight = Computes binary.ShiftRight
 operation operator.Less = Compares relation.Less

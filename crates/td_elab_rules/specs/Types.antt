@@ -2,27 +2,15 @@
 -- types", "Output parameters").
 use Rattle.std.specs.Prelude.{ℕ, ◌+◌, ◌*◌, Bool, true, false, cond, not, ◌&&◌, nat_eq, nat_le, List, [], ◌∷◌, ◌++◌, length, Option, Some, None, is_some, slice_get}
 use Rattle.td_num.specs.Numbers.{bytes_in, places_from}
-use Rattle.td_num.specs.declared.number.NumberType.{NumberType}
+use Rattle.td_elab_rules.specs.Imports.{NumberType, ByteOrder, LittleEndian, BigEndian, Span, TypeKind, TypeTree, Element, Param, CellKind, Number as NumberCell, Pointer as PointerCell, Cell, Buffer, TypeDef}
 use Rattle.td_num.specs.declared.number.Width.TheVariants.{One}
-use Rattle.td_num.specs.declared.number.ByteOrder.{ByteOrder}
-use Rattle.td_num.specs.declared.number.ByteOrder.TheVariants.{LittleEndian, BigEndian}
-use Rattle.td_ast.specs.declared.token.Span.{Span}
-use Rattle.td_ast.specs.declared.fields.TypeKind.{TypeKind}
 use Rattle.td_ast.specs.declared.fields.TypeKind.TheVariants as type
-use Rattle.td_ast.specs.declared.fields.TypeTree.{TypeTree}
 use Rattle.td_ast.specs.Trees.{Tree}
 use Rattle.td_ast.specs.Trees as tree
 use Rattle.td_core.specs.Term.{Term}
 use Rattle.td_core.specs.Types.{bits, type_of}
 use Rattle.td_core.specs.Formed.{scalar_of}
-use Rattle.td_core.specs.declared.module.Element.{Element}
 use Rattle.td_core.specs.declared.module.Element.TheVariants as element
-use Rattle.td_core.specs.declared.module.Param.{Param}
-use Rattle.td_core.specs.declared.module.CellKind.{CellKind}
-use Rattle.td_core.specs.declared.module.CellKind.TheVariants.{Number as NumberCell, Pointer as PointerCell}
-use Rattle.td_core.specs.declared.module.Cell.{Cell}
-use Rattle.td_core.specs.declared.module.Buffer.{Buffer}
-use Rattle.td_core.specs.declared.module.TypeDef.{TypeDef}
 use Rattle.td_elab_rules.specs.declared.breach.Rule.TheVariants.{Unknown, WrongArgs, Mismatch}
 use Rattle.td_elab_rules.specs.declared.breach.Breach.{Breach}
 use Rattle.td_elab_rules.specs.declared.known.CellType.{CellType}

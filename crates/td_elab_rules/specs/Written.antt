@@ -1,12 +1,6 @@
 -- The names that are written in a tree (own rule: a module's names are among them).
 use Rattle.std.specs.Prelude.{ℕ, List, [], ◌∷◌, ◌++◌, Option, Some, None}
-use Rattle.td_ast.specs.declared.fields.FieldTree.{FieldTree}
-use Rattle.td_ast.specs.declared.parameters.ParamTree.{ParamTree}
-use Rattle.td_ast.specs.declared.definitions.SlotTree.{SlotTree}
-use Rattle.td_ast.specs.declared.definitions.CaseTree.{CaseTree}
-use Rattle.td_ast.specs.declared.definitions.Def.{Def}
-use Rattle.td_ast.specs.declared.definitions.Def.TheVariants.{Define, Enum, Alias, Struct, Casetype, Output}
-use Rattle.td_ast.specs.declared.definitions.ModuleTree.{ModuleTree}
+use Rattle.td_elab_rules.specs.Imports.{FieldTree, ParamTree, SlotTree, CaseTree, Def, Define, Enum, Alias, Struct, Casetype, Output, ModuleTree}
 use Rattle.td_elab_rules.specs.Modules.{param_name}
 
 abbrev pub params_written : List ParamTree → List (List ℕ)

@@ -116,7 +116,7 @@ fn is_taken(known: &Known, scope: &Scope, parameter: Parameter, arg: &Expr) -> b
 }
 
 /// Notes another number of arguments, or an argument for cells or for a copy buffer that isn't one.
-pub fn check_applied(
+pub(crate) fn check_applied(
     known: &Known,
     scope: &Scope,
     at: Span,
@@ -344,7 +344,7 @@ fn applied(
 /// The struct or casetype at a place with its arguments; their breaches are noted. `AllocError`: there is an argument,
 /// and out of memory.
 #[tactic(auto, using(td_elab_exprs::proofs::Steps::first_append, crate::proofs::Sides::some_argument))]
-pub fn apply(
+pub(crate) fn apply(
     alloc: Global,
     known: &Known,
     scope: &Scope,

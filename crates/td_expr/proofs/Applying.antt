@@ -2,9 +2,7 @@
 use Rattle.std.proofs.Common.{◌≡◌, ℕ, ◌<◌, ◌≤◌, ◌+◌, ◌-◌, ◌*◌, ◌/◌, ◌%◌, ◌^◌, sym, ap, ◌∙◌, subst, arith, lit≤, mul_assoc, List, pos}
 use Rattle.std.proofs.Math.Nat.{mul-mod_left, div-eq_of_lt, mod-eq_of_lt, pow-le-pow_right}
 use Rattle.std.proofs.lemmas.Nat.{pow-add}
-use Rattle.td_core.specs.declared.expressions.Scalar.{Scalar}
-use Rattle.td_core.specs.declared.expressions.Scalar.TheVariants.{Truth, Eight, Sixteen, ThirtyTwo, SixtyFour}
-use Rattle.td_core.specs.declared.expressions.Binary.TheVariants.{ShiftRight}
+use Rattle.td_expr.specs.Imports.{Scalar, Truth, Eight, Sixteen, ThirtyTwo, SixtyFour, ShiftRight}
 use Rattle.td_core.specs.Types.{bits, limit, type_of}
 use Rattle.td_core.specs.Term.{Term}
 use Rattle.td_expr.specs.Value.{computed, value_of, complemented, natural}

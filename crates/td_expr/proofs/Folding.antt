@@ -5,13 +5,7 @@ use Rattle.std.specs.Prelude.{slice_index}
 use Rattle.std.proofs.lemmas.Option.{none-some, same_Some}
 use Rattle.std.proofs.lemmas.Bool.{eqb-true, and_parts, false≢true}
 use Rattle.td_num.proofs.Equals.{three_same, two_same}
-use Rattle.td_ast.specs.declared.token.Span.{Span}
-use Rattle.td_core.specs.declared.expressions.Scalar.{Scalar}
-use Rattle.td_core.specs.declared.expressions.Scalar.TheVariants.{Truth, Eight, Sixteen, ThirtyTwo, SixtyFour}
-use Rattle.td_core.specs.declared.expressions.Binary.{Binary}
-use Rattle.td_core.specs.declared.expressions.Binary.TheVariants.{Plus, Minus, Times, Over, Modulo, BitAnd, BitOr, BitXor, ShiftLeft, ShiftRight}
-use Rattle.td_core.specs.declared.expressions.Relation.{Relation}
-use Rattle.td_core.specs.declared.expressions.Relation.TheVariants.{Equal, NotEqual, Less, LessEqual, Greater, GreaterEqual}
+use Rattle.td_expr.specs.Imports.{Span, Scalar, Truth, Eight, Sixteen, ThirtyTwo, SixtyFour, Binary, Add, Subtract, Multiply, Divide, Remainder, BitAnd, BitOr, BitXor, ShiftLeft, ShiftRight, Relation, Equal, NotEqual, Less, LessEqual, Greater, GreaterEqual}
 use Rattle.td_core.specs.Term.{Term, number, name, complement, negation, compute, compare, both, either, choice, range_okay}
 use Rattle.td_core.specs.Types.{limit, wider, computed_type, type_of}
 use Rattle.td_expr.specs.Value.{value_of, complemented, negated, computed, compared, both_of, either_of, choice_of, range_okay_of}
@@ -65,11 +59,11 @@ type_same SixtyFour SixtyFour h = refl
 type_same v w h = absurd (false≢true h)
 
 binary_same : (a b : Binary) → binary_eq a b ≡ true → a ≡ b
-binary_same Plus Plus h = refl
-binary_same Minus Minus h = refl
-binary_same Times Times h = refl
-binary_same Over Over h = refl
-binary_same Modulo Modulo h = refl
+binary_same Add Add h = refl
+binary_same Subtract Subtract h = refl
+binary_same Multiply Multiply h = refl
+binary_same Divide Divide h = refl
+binary_same Remainder Remainder h = refl
 binary_same BitAnd BitAnd h = refl
 binary_same BitOr BitOr h = refl
 binary_same BitXor BitXor h = refl

@@ -2,12 +2,7 @@
 use Rattle.std.proofs.Common.{◌≡◌, ℕ, ◌<◌, ◌≤◌, Bool, true, false, ltb, refl, sym, ap, subst, ◌∙◌, inl, inr, arith, List, [], ◌∷◌, ◌++◌, ℤ, pos, negsuc}
 use Rattle.std.specs.Prelude.{◌-ℤ◌}
 use Rattle.std.proofs.lemmas.Bool.{ltb-false, false≢true, true≢false, or_cases}
-use Rattle.td_core.specs.declared.expressions.Scalar.{Scalar}
-use Rattle.td_core.specs.declared.expressions.Scalar.TheVariants.{Truth}
-use Rattle.td_core.specs.declared.expressions.Binary.{Binary}
-use Rattle.td_core.specs.declared.expressions.Binary.TheVariants.{Minus}
-use Rattle.td_core.specs.declared.expressions.Relation.{Relation}
-use Rattle.td_core.specs.declared.expressions.Relation.TheVariants.{LessEqual}
+use Rattle.td_expr.specs.Imports.{Scalar, Truth, Binary, Subtract, Relation, LessEqual}
 use Rattle.td_core.specs.Term.{Term, number, name, complement, negation, compute, compare, both, either, choice, range_okay}
 use Rattle.td_core.specs.Types.{limit, type_of}
 use Rattle.td_expr.specs.Value.{value_of, truth_of, number_of, flip, chosen, computed, related, natural}
@@ -77,14 +72,14 @@ computed_in_type op a b env x y p q h =
     subst (λ v. FitsScalar (type_of (compute op no_span a b)) (computed op (type_of a) (type_of b) (value_of a env) v)) (sym q)
     (subst (λ v. FitsScalar (type_of (compute op no_span a b)) (computed op (type_of a) (type_of b) v (pos y))) (sym p) h)
 
-difference_sound : (s a : Term) (env : List ℕ) → Sound s env → Sound a env → related LessEqual (value_of a env) (value_of s env) ≡ true → Sound (compute Minus no_span s a) env
+difference_sound : (s a : Term) (env : List ℕ) → Sound s env → Sound a env → related LessEqual (value_of a env) (value_of s env) ≡ true → Sound (compute Subtract no_span s a) env
 difference_sound s a env p q h =
     let v = as_number (type_of s) (value_of s env) (in_type s env p) in
     let w = as_number (type_of a) (value_of a env) (in_type a env q) in
     let x = natural (value_of s env) in
     let y = natural (value_of a env) in (
-      computed_in_type Minus s a env x y v w
-          (computed_fits Minus (type_of s) (type_of a) x y
+      computed_in_type Subtract s a env x y v w
+          (computed_fits Subtract (type_of s) (type_of a) x y
           (below_limit (type_of s) (value_of s env) (in_type s env p)) (below_limit (type_of a) (value_of a env) (in_type a env q))
           (up_to_values (value_of a env) (value_of s env) h w v)),
       (p, q),

@@ -2,11 +2,7 @@
 use Rattle.std.proofs.Common.{◌≡◌, ℕ, zero, suc, ◌<◌, ◌≤◌, ◌+◌, Bool, true, false, refl, sym, ap, subst, ◌∙◌, inl, inr, arith, List, ◌++◌, ℤ, pos, negsuc, Option, Some, None}
 use Rattle.std.specs.Prelude.{◌-ℤ◌, ◌+ℤ◌, ◌||◌, ◌&&◌, int_lt, nat_le, slice_index}
 use Rattle.std.proofs.lemmas.Bool.{ltb-true, eqb-true, false≢true, and_parts, or_cases}
-use Rattle.td_core.specs.declared.expressions.Scalar.{Scalar}
-use Rattle.td_core.specs.declared.expressions.Binary.{Binary}
-use Rattle.td_core.specs.declared.expressions.Binary.TheVariants.{Plus, Minus, Times, Over, Modulo, BitAnd, BitOr, BitXor, ShiftLeft, ShiftRight}
-use Rattle.td_core.specs.declared.expressions.Relation.{Relation}
-use Rattle.td_core.specs.declared.expressions.Relation.TheVariants.{Equal, NotEqual, Less, LessEqual, Greater, GreaterEqual}
+use Rattle.td_expr.specs.Imports.{Scalar, Binary, Add, Subtract, Multiply, Divide, Remainder, BitAnd, BitOr, BitXor, ShiftLeft, ShiftRight, Relation, Equal, NotEqual, Less, LessEqual, Greater, GreaterEqual}
 use Rattle.td_core.specs.Term.{Term, number, name, complement, negation, compute, compare, both, either, choice, range_okay}
 use Rattle.td_core.specs.Types.{bits, limit, wider, computed_type, type_of}
 use Rattle.td_expr.specs.Value.{value_of, truth_of, flip, chosen, computed, related, int_eq, natural}
@@ -83,7 +79,7 @@ is_not_zero b env y f q e h =
 
 -- a sum that is at most a number of its own type
 bounded_by : (w : Scalar) (c d left : Term) (env : List ℕ) (m n : ℕ) → nat_le (bits (type_of c)) (bits w) ≡ true → Sound c env → value_of left env ≡ pos m → value_of d env ≡ pos n
-    → related LessEqual (value_of left env) (value_of (compute Minus no_span c d) env) ≡ true → m + n < limit w
+    → related LessEqual (value_of left env) (value_of (compute Subtract no_span c d) env) ≡ true → m + n < limit w
 bounded_by w c d left env m n wide s p q t =
     let z = natural (value_of c env) in
     let e = as_number (type_of c) (value_of c env) (in_type c env s) in
@@ -95,7 +91,7 @@ bounded_by w c d left env m n wide s p q t =
 
 bounded : (w : Scalar) (a b left right : Term) (env : List ℕ) (x y : ℕ) → value_of a env ≡ pos x → value_of b env ≡ pos y → bounds_sum w a b left right ≡ true
     → Sound right env → related LessEqual (value_of left env) (value_of right env) ≡ true → x + y < limit w
-bounded w a b left (compute Minus span c d) env x y p q e s t =
+bounded w a b left (compute Subtract span c d) env x y p q e s t =
     let u = and_parts (nat_le (bits (type_of c)) (bits w)) ((same left a && same d b) || (same left b && same d a)) e in
     elim (or_cases (same left a && same d b) (same left b && same d a) u.1) [
       | inl here ↦
@@ -110,7 +106,7 @@ bounded w a b left right env x y p q e s t = absurd (false≢true e)
 
 safe_admits : (fs : List Fact) (op : Binary) (a b : Term) (env : List ℕ) (x y : ℕ) → is_safe fs op a b ≡ true → AllHold fs env → value_of a env ≡ pos x → value_of b env ≡ pos y
     → Contains (range_of fs a) x → Contains (range_of fs b) y → Admitted op (type_of a) (type_of b) x y
-safe_admits fs Plus a b env x y e h p q i j =
+safe_admits fs Add a b env x y e h p q i j =
     let w = wider (type_of a) (type_of b) in
     elim (or_cases (is_below (((range_of fs a).high +ℤ (range_of fs b).high)) (limit w)) (some_fact (says_sum w a b) fs) e) [
       | inl fit ↦ sum_fits (range_of fs a).high (range_of fs b).high x y (limit w) (limit_small w) i.to j.to fit
@@ -120,16 +116,16 @@ safe_admits fs Plus a b env x y e h p q i j =
           bounded w a b f.fact.left f.fact.right env x y p q u.1 f.holds.right
           (subst (λ r. related r (value_of f.fact.left env) (value_of f.fact.right env) ≡ true) (at_most_is f.fact.relation u.0) f.holds.relates)
     ]
-safe_admits fs Minus a b env x y e h p q i j = elim (or_cases (some_fact (says_up_to b a) fs) (flip (int_lt (range_of fs a).low (range_of fs b).high)) e) [
+safe_admits fs Subtract a b env x y e h p q i j = elim (or_cases (some_fact (says_up_to b a) fs) (flip (int_lt (range_of fs a).low (range_of fs b).high)) e) [
   | inl relates ↦ let f = found (says_up_to b a) fs env h relates in is_up_to a b env x y f.fact p q f.passes f.holds
   | inr apart ↦ apart_ranges (range_of fs a).low (range_of fs b).high x y i.from j.to (flip_true (int_lt (range_of fs a).low (range_of fs b).high) apart)
 ]
-safe_admits fs Times a b env x y e h p q i j = product_fits (range_of fs a).high (range_of fs b).high x y (limit (wider (type_of a) (type_of b))) (limit_small (wider (type_of a) (type_of b))) i.to j.to e
-safe_admits fs Over a b env x y e h p q i j = elim (or_cases (int_lt (pos 0) (range_of fs b).low) (some_fact (says_not_zero b) fs) e) [
+safe_admits fs Multiply a b env x y e h p q i j = product_fits (range_of fs a).high (range_of fs b).high x y (limit (wider (type_of a) (type_of b))) (limit_small (wider (type_of a) (type_of b))) i.to j.to e
+safe_admits fs Divide a b env x y e h p q i j = elim (or_cases (int_lt (pos 0) (range_of fs b).low) (some_fact (says_not_zero b) fs) e) [
   | inl low ↦ starts_above (range_of fs b).low y j.from low
   | inr relates ↦ let f = found (says_not_zero b) fs env h relates in is_not_zero b env y f.fact q f.passes f.holds
 ]
-safe_admits fs Modulo a b env x y e h p q i j = elim (or_cases (int_lt (pos 0) (range_of fs b).low) (some_fact (says_not_zero b) fs) e) [
+safe_admits fs Remainder a b env x y e h p q i j = elim (or_cases (int_lt (pos 0) (range_of fs b).low) (some_fact (says_not_zero b) fs) e) [
   | inl low ↦ starts_above (range_of fs b).low y j.from low
   | inr relates ↦ let f = found (says_not_zero b) fs env h relates in is_not_zero b env y f.fact q f.passes f.holds
 ]

@@ -6,11 +6,7 @@ use Rattle.std.proofs.lemmas.Nat.{mul-le, and_le_l, and_le_r, or_lt, xor_lt, mod
 use Rattle.std.proofs.Math.IntN.{pos-ne-negsuc}
 use Rattle.std.proofs.Math.Nat.{div-le_self, mod-le}
 use Rattle.td_num.proofs.Equals.{minus_under}
-use Rattle.td_core.specs.declared.expressions.Scalar.{Scalar}
-use Rattle.td_core.specs.declared.expressions.Binary.{Binary}
-use Rattle.td_core.specs.declared.expressions.Binary.TheVariants.{Plus, Minus, Times, Over, Modulo, BitAnd, BitOr, BitXor, ShiftLeft, ShiftRight}
-use Rattle.td_core.specs.declared.expressions.Relation.{Relation}
-use Rattle.td_core.specs.declared.expressions.Relation.TheVariants.{Equal, NotEqual, Less, LessEqual, Greater, GreaterEqual}
+use Rattle.td_expr.specs.Imports.{Scalar, Binary, Add, Subtract, Multiply, Divide, Remainder, BitAnd, BitOr, BitXor, ShiftLeft, ShiftRight, Relation, Equal, NotEqual, Less, LessEqual, Greater, GreaterEqual}
 use Rattle.td_core.specs.Term.{Term, number, name, complement, negation, compute, compare, both, either, choice, range_okay}
 use Rattle.td_core.specs.Types.{bits, limit, wider, computed_type, type_of}
 use Rattle.td_expr.specs.Same.{same, constant_of}
@@ -135,11 +131,11 @@ whole_contains w n h = record { from = omega arith; to = omega arith }
 
 -- what an operator needs of its operands for its result to lie in its type
 abbrev pub Admitted : Binary → Scalar → Scalar → ℕ → ℕ → Type 0
-Admitted Plus v w x y = x + y < limit (wider v w)
-Admitted Minus v w x y = y ≤ x
-Admitted Times v w x y = x * y < limit (wider v w)
-Admitted Over v w x y = 0 < y
-Admitted Modulo v w x y = 0 < y
+Admitted Add v w x y = x + y < limit (wider v w)
+Admitted Subtract v w x y = y ≤ x
+Admitted Multiply v w x y = x * y < limit (wider v w)
+Admitted Divide v w x y = 0 < y
+Admitted Remainder v w x y = 0 < y
 Admitted BitAnd v w x y = Unit {0}
 Admitted BitOr v w x y = Unit {0}
 Admitted BitXor v w x y = Unit {0}
@@ -150,13 +146,13 @@ reduced_below : (w : Scalar) (x : ℕ) → x % limit w < limit w
 reduced_below w x = mod_below x (limit w) (limit_pos w)
 
 pub computed_fits : (op : Binary) (v w : Scalar) (x y : ℕ) → x < limit v → y < limit w → Admitted op v w x y → FitsScalar (computed_type op v w) (computed op v w (pos x) (pos y))
-computed_fits Plus v w x y p q h = h
-computed_fits Minus v w x y p q h = subst (FitsScalar (wider v w)) (sym (minus_is x y h)) (omega (arith, wider_left v w))
-computed_fits Times v w x y p q h = h
-computed_fits Over v w x zero p q h = limit_pos (wider v w)
-computed_fits Over v w x (suc y) p q h = omega (arith, div-le_self x (suc y), wider_left v w)
-computed_fits Modulo v w x zero p q h = limit_pos (wider v w)
-computed_fits Modulo v w x (suc y) p q h = omega (arith, mod-le x (suc y), wider_left v w)
+computed_fits Add v w x y p q h = h
+computed_fits Subtract v w x y p q h = subst (FitsScalar (wider v w)) (sym (minus_is x y h)) (omega (arith, wider_left v w))
+computed_fits Multiply v w x y p q h = h
+computed_fits Divide v w x zero p q h = limit_pos (wider v w)
+computed_fits Divide v w x (suc y) p q h = omega (arith, div-le_self x (suc y), wider_left v w)
+computed_fits Remainder v w x zero p q h = limit_pos (wider v w)
+computed_fits Remainder v w x (suc y) p q h = omega (arith, mod-le x (suc y), wider_left v w)
 computed_fits BitAnd v w x y p q h = omega (arith, and_le_l (x % limit (wider v w)) (y % limit (wider v w)), reduced_below (wider v w) x)
 computed_fits BitOr v w x y p q h = or_lt (bits (wider v w)) (x % limit (wider v w)) (y % limit (wider v w)) (reduced_below (wider v w) x) (reduced_below (wider v w) y)
 computed_fits BitXor v w x y p q h = xor_lt (bits (wider v w)) (x % limit (wider v w)) (y % limit (wider v w)) (reduced_below (wider v w) x) (reduced_below (wider v w) y)
@@ -210,24 +206,24 @@ remainder_reaches (negsuc k) x y r = absurd r
 
 pub computed_contains : (op : Binary) (v w : Scalar) (x y : ℕ) (a b : Range) → x < limit v → y < limit w → Admitted op v w x y → Contains a x → Contains b y
     → Contains (computed_range op (computed_type op v w) a b) (natural (computed op v w (pos x) (pos y)))
-computed_contains Plus v w x y a b p q h i j = record {
+computed_contains Add v w x y a b p q h i j = record {
   from = sum_starts a.low b.low x y i.from j.from;
   to = sum_reaches a.high b.high x y i.to j.to;
 }
-computed_contains Minus v w x y a b p q h i j =
-    subst (λ z. Contains (computed_range Minus (wider v w) a b) (natural z)) (sym (minus_is x y h))
+computed_contains Subtract v w x y a b p q h i j =
+    subst (λ z. Contains (computed_range Subtract (wider v w) a b) (natural z)) (sym (minus_is x y h))
     (record {
       from = difference_starts a.low b.high x y i.from j.to;
       to = difference_reaches a.high b.low x y i.to j.from h;
     })
-computed_contains Times v w x y a b p q h i j = record {
+computed_contains Multiply v w x y a b p q h i j = record {
   from = product_starts a.low b.low x y i.from j.from;
   to = product_reaches a.high b.high x y i.to j.to;
 }
-computed_contains Over v w x zero a b p q h i j = absurd (omega arith)
-computed_contains Over v w x (suc y) a b p q h i j = record { from = omega arith; to = reaches_less a.high x (x / suc y) (div-le_self x (suc y)) i.to }
-computed_contains Modulo v w x zero a b p q h i j = absurd (omega arith)
-computed_contains Modulo v w x (suc y) a b p q h i j = record {
+computed_contains Divide v w x zero a b p q h i j = absurd (omega arith)
+computed_contains Divide v w x (suc y) a b p q h i j = record { from = omega arith; to = reaches_less a.high x (x / suc y) (div-le_self x (suc y)) i.to }
+computed_contains Remainder v w x zero a b p q h i j = absurd (omega arith)
+computed_contains Remainder v w x (suc y) a b p q h i j = record {
   from = omega arith;
   to = least_reaches a.high ((b.high -ℤ pos 1)) (x % suc y) (reaches_less a.high x (x % suc y) (mod-le x (suc y)) i.to)
       (remainder_reaches b.high x y j.to);
@@ -316,11 +312,11 @@ natural_narrowed : (fs : List Fact) (t : Term) (range : Range) → IsNatural ran
 natural_narrowed fs t range i = natural_cuts fs t (constant_or (constant_of t) range) (natural_constant (constant_of t) range i)
 
 natural_computed : (op : Binary) (w : Scalar) (a b : Range) → IsNatural a.low → IsNatural b.low → IsNatural (computed_range op w a b).low
-natural_computed Plus w a b p q = natural_sum a.low b.low p q
-natural_computed Minus w a b p q = natural_greatest ((a.low -ℤ b.high))
-natural_computed Times w a b p q = natural_product a.low b.low p q
-natural_computed Over w a b p q = tt
-natural_computed Modulo w a b p q = tt
+natural_computed Add w a b p q = natural_sum a.low b.low p q
+natural_computed Subtract w a b p q = natural_greatest ((a.low -ℤ b.high))
+natural_computed Multiply w a b p q = natural_product a.low b.low p q
+natural_computed Divide w a b p q = tt
+natural_computed Remainder w a b p q = tt
 natural_computed BitAnd w a b p q = tt
 natural_computed BitOr w a b p q = tt
 natural_computed BitXor w a b p q = tt

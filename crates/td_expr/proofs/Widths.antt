@@ -7,8 +7,7 @@ use Rattle.std.proofs.lemmas.Nat.{pow_pos}
 use Rattle.td_num.specs.declared.number.Width.{Width}
 use Rattle.td_num.specs.declared.number.Width.TheVariants.{One, Two, Four, Eight as EightBytes}
 use Rattle.td_num.specs.Numbers.{bytes_in}
-use Rattle.td_core.specs.declared.expressions.Scalar.{Scalar}
-use Rattle.td_core.specs.declared.expressions.Scalar.TheVariants.{Truth, Eight, Sixteen, ThirtyTwo, SixtyFour}
+use Rattle.td_expr.specs.Imports.{Scalar, Truth, Eight, Sixteen, ThirtyTwo, SixtyFour}
 use Rattle.td_core.specs.Types.{bits, limit, wider}
 use Rattle.td_core.specs.Formed.{scalar_of}
 

@@ -1,9 +1,6 @@
 -- What is known at an expression: the conjuncts of conditions that are true there (own rule).
 use Rattle.std.specs.Prelude.{Bool, true, false, ◌||◌, List, [], ◌∷◌, ◌++◌}
-use Rattle.td_ast.specs.declared.token.Span.{Span}
-use Rattle.td_core.specs.declared.expressions.Binary.TheVariants.{Minus}
-use Rattle.td_core.specs.declared.expressions.Relation.{Relation}
-use Rattle.td_core.specs.declared.expressions.Relation.TheVariants.{Equal, NotEqual, Less, LessEqual, Greater, GreaterEqual}
+use Rattle.td_expr.specs.Imports.{Span, Subtract, Relation, Equal, NotEqual, Less, LessEqual, Greater, GreaterEqual}
 use Rattle.td_core.specs.Term.{Term, number, name, complement, negation, compute, compare, both, either, choice, range_okay}
 
 -- a comparison that is true; where it isn't written out, its operators have no place
@@ -53,7 +50,7 @@ facts_of false (both a b) = []
 facts_of true (either a b) = []
 facts_of false (either a b) = facts_of false a ++ facts_of false b
 facts_of _ (choice c a b) = []
-facts_of true (range_okay s o a) = fact LessEqual a s ++ fact LessEqual o (compute Minus no_span s a)
+facts_of true (range_okay s o a) = fact LessEqual a s ++ fact LessEqual o (compute Subtract no_span s a)
 facts_of false (range_okay s o a) = []
 
 abbrev pub some_fact : (Fact → Bool) → List Fact → Bool

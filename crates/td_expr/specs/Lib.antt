@@ -1,3 +1,4 @@
+pub mod Imports
 pub mod Value
 pub mod Same
 pub mod Naming

@@ -1,10 +1,6 @@
 -- Between which whole numbers an expression lies under these facts (own rule). The ends have no bound.
 use Rattle.std.specs.Prelude.{ℕ, ◌-◌, Bool, true, false, List, [], ◌∷◌, ◌++◌, ℤ, pos, ◌+ℤ◌, ◌-ℤ◌, ◌*ℤ◌, int_lt, cond, Option, Some, None}
-use Rattle.td_core.specs.declared.expressions.Scalar.{Scalar}
-use Rattle.td_core.specs.declared.expressions.Binary.{Binary}
-use Rattle.td_core.specs.declared.expressions.Binary.TheVariants.{Plus, Minus, Times, Over, Modulo, BitAnd, BitOr, BitXor, ShiftLeft, ShiftRight}
-use Rattle.td_core.specs.declared.expressions.Relation.{Relation}
-use Rattle.td_core.specs.declared.expressions.Relation.TheVariants.{Equal, NotEqual, Less, LessEqual, Greater, GreaterEqual}
+use Rattle.td_expr.specs.Imports.{Scalar, Binary, Add, Subtract, Multiply, Divide, Remainder, BitAnd, BitOr, BitXor, ShiftLeft, ShiftRight, Relation, Equal, NotEqual, Less, LessEqual, Greater, GreaterEqual}
 use Rattle.td_core.specs.Term.{Term, number, name, complement, negation, compute, compare, both, either, choice, range_okay}
 use Rattle.td_core.specs.Types.{limit, computed_type, type_of}
 use Rattle.td_expr.specs.Same.{constant_of, same}
@@ -61,11 +57,11 @@ whole w = from_to (pos 0) (pos (limit w - 1))
 
 -- of operands in these ranges
 abbrev pub computed_range : Binary → Scalar → Range → Range → Range
-computed_range Plus w a b = from_to ((a.low +ℤ b.low)) ((a.high +ℤ b.high))
-computed_range Minus w a b = from_to (greatest (pos 0) ((a.low -ℤ b.high))) ((a.high -ℤ b.low))
-computed_range Times w a b = from_to ((a.low *ℤ b.low)) ((a.high *ℤ b.high))
-computed_range Over w a b = from_to (pos 0) a.high
-computed_range Modulo w a b = from_to (pos 0) (least a.high ((b.high -ℤ pos 1)))
+computed_range Add w a b = from_to ((a.low +ℤ b.low)) ((a.high +ℤ b.high))
+computed_range Subtract w a b = from_to (greatest (pos 0) ((a.low -ℤ b.high))) ((a.high -ℤ b.low))
+computed_range Multiply w a b = from_to ((a.low *ℤ b.low)) ((a.high *ℤ b.high))
+computed_range Divide w a b = from_to (pos 0) a.high
+computed_range Remainder w a b = from_to (pos 0) (least a.high ((b.high -ℤ pos 1)))
 computed_range BitAnd w a b = from_to (pos 0) (least a.high b.high)
 computed_range BitOr w a b = whole w
 computed_range BitXor w a b = whole w

@@ -1,11 +1,6 @@
 -- Constant parts, and when two expressions are the same (own rule).
 use Rattle.std.specs.Prelude.{ℕ, Bool, true, false, ◌&&◌, nat_eq, nat_lt, cond, ℤ, pos, negsuc, Option, Some, None}
-use Rattle.td_core.specs.declared.expressions.Scalar.{Scalar}
-use Rattle.td_core.specs.declared.expressions.Scalar.TheVariants.{Truth}
-use Rattle.td_core.specs.declared.expressions.Binary.{Binary}
-use Rattle.td_core.specs.declared.expressions.Binary.TheVariants.{Plus, Minus, Times, Over, Modulo, BitAnd, BitOr, BitXor, ShiftLeft, ShiftRight}
-use Rattle.td_core.specs.declared.expressions.Relation.{Relation}
-use Rattle.td_core.specs.declared.expressions.Relation.TheVariants.{Equal, NotEqual, Less, LessEqual, Greater, GreaterEqual}
+use Rattle.td_expr.specs.Imports.{Scalar, Truth, Binary, Add, Subtract, Multiply, Divide, Remainder, BitAnd, BitOr, BitXor, ShiftLeft, ShiftRight, Relation, Equal, NotEqual, Less, LessEqual, Greater, GreaterEqual}
 use Rattle.td_core.specs.Term.{Term, number, name, complement, negation, compute, compare, both, either, choice, range_okay}
 use Rattle.td_core.specs.Types.{bits, limit, wider, computed_type, type_of}
 use Rattle.td_expr.specs.Value.{complemented, negated, computed, compared, both_of, either_of, choice_of, range_okay_of}
@@ -46,11 +41,11 @@ abbrev pub type_eq : Scalar → Scalar → Bool
 type_eq v w = nat_eq (bits v) (bits w)
 
 abbrev pub binary_eq : Binary → Binary → Bool
-binary_eq Plus Plus = true
-binary_eq Minus Minus = true
-binary_eq Times Times = true
-binary_eq Over Over = true
-binary_eq Modulo Modulo = true
+binary_eq Add Add = true
+binary_eq Subtract Subtract = true
+binary_eq Multiply Multiply = true
+binary_eq Divide Divide = true
+binary_eq Remainder Remainder = true
 binary_eq BitAnd BitAnd = true
 binary_eq BitOr BitOr = true
 binary_eq BitXor BitXor = true

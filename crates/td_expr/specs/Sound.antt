@@ -1,6 +1,6 @@
 -- Values in their types' ranges (own rule).
 use Rattle.std.specs.Prelude.{◌≡◌, ℕ, ◌<◌, ◌≤◌, true, false, List, [], ◌∷◌, ℤ, pos, negsuc, slice_index}
-use Rattle.td_core.specs.declared.expressions.Scalar.{Scalar}
+use Rattle.td_expr.specs.Imports.{Scalar}
 use Rattle.td_core.specs.Term.{Term, number, name, complement, negation, compute, compare, both, either, choice, range_okay}
 use Rattle.td_core.specs.Types.{limit, type_of}
 use Rattle.td_expr.specs.Value.{value_of, truth_of, related}

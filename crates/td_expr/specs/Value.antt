@@ -1,11 +1,7 @@
 -- The value of an expression, a whole number without bound (3D manual, "Expressions"; `/`, `%`, shifts and bitwise operators
 -- by an own rule).
 use Rattle.std.specs.Prelude.{ℕ, zero, suc, ◌-◌, ◌*◌, ◌/◌, ◌%◌, ◌^◌, Bool, true, false, nat_eq, ℤ, pos, negsuc, ◌+ℤ◌, ◌-ℤ◌, ◌*ℤ◌, int_lt, bit_and, bit_or, bit_xor, List, slice_index}
-use Rattle.td_core.specs.declared.expressions.Scalar.{Scalar}
-use Rattle.td_core.specs.declared.expressions.Binary.{Binary}
-use Rattle.td_core.specs.declared.expressions.Binary.TheVariants.{Plus, Minus, Times, Over, Modulo, BitAnd, BitOr, BitXor, ShiftLeft, ShiftRight}
-use Rattle.td_core.specs.declared.expressions.Relation.{Relation}
-use Rattle.td_core.specs.declared.expressions.Relation.TheVariants.{Equal, NotEqual, Less, LessEqual, Greater, GreaterEqual}
+use Rattle.td_expr.specs.Imports.{Scalar, Binary, Add, Subtract, Multiply, Divide, Remainder, BitAnd, BitOr, BitXor, ShiftLeft, ShiftRight, Relation, Equal, NotEqual, Less, LessEqual, Greater, GreaterEqual}
 use Rattle.td_core.specs.Term.{Term, number, name, complement, negation, compute, compare, both, either, choice, range_okay}
 use Rattle.td_core.specs.Types.{limit, wider, type_of}
 
@@ -55,11 +51,11 @@ int_eq (negsuc a) (negsuc b) = nat_eq a b
 -- Bitwise operators and shifts first take each operand modulo 2 ^ (the bits of a type): a shift takes each modulo its own
 -- type's, and `<<` drops the bits past its left side's.
 abbrev pub computed : Binary → Scalar → Scalar → ℤ → ℤ → ℤ
-computed Plus v w a b = a +ℤ b
-computed Minus v w a b = a -ℤ b
-computed Times v w a b = a *ℤ b
-computed Over v w a b = quotient a b
-computed Modulo v w a b = remainder a b
+computed Add v w a b = a +ℤ b
+computed Subtract v w a b = a -ℤ b
+computed Multiply v w a b = a *ℤ b
+computed Divide v w a b = quotient a b
+computed Remainder v w a b = remainder a b
 computed BitAnd v w a b = pos (bit_and (reduced (limit (wider v w)) a) (reduced (limit (wider v w)) b))
 computed BitOr v w a b = pos (bit_or (reduced (limit (wider v w)) a) (reduced (limit (wider v w)) b))
 computed BitXor v w a b = pos (bit_xor (reduced (limit (wider v w)) a) (reduced (limit (wider v w)) b))

@@ -2,7 +2,7 @@
 
 ghost use Rattle.std.specs.Prelude.{◌≡◌, ◌<◌, ◌%◌, pos, Some, None};
 ghost use Rattle.std.specs.Option.{ForSome};
-ghost use Rattle.td_core.specs.declared.expressions.Scalar.TheVariants.{Truth};
+ghost use Rattle.td_expr.specs.Imports.{Truth};
 ghost use Rattle.td_core.specs.Types.{limit, computed_type, type_of};
 ghost use Rattle.td_expr.specs.Value.{computed, complemented, number_of};
 ghost use Rattle.td_expr.specs.Same.{fitting, constant_of};
@@ -145,17 +145,17 @@ fn compute_constant(op: Binary, left: Scalar, right: Scalar, x: u64, y: u64) -> 
 {
     let wide = wider_of(left, right);
     match op {
-        Binary::Plus => match x.checked_add(y) {
+        Binary::Add => match x.checked_add(y) {
             Some(n) => fit(wide, n),
             None => None,
         },
-        Binary::Minus => if y <= x { fit(wide, x - y) } else { None },
-        Binary::Times => match x.checked_mul(y) {
+        Binary::Subtract => if y <= x { fit(wide, x - y) } else { None },
+        Binary::Multiply => match x.checked_mul(y) {
             Some(n) => fit(wide, n),
             None => None,
         },
-        Binary::Over => fit(wide, if y == 0 { 0 } else { x / y }),
-        Binary::Modulo => fit(wide, if y == 0 { 0 } else { x % y }),
+        Binary::Divide => fit(wide, if y == 0 { 0 } else { x / y }),
+        Binary::Remainder => fit(wide, if y == 0 { 0 } else { x % y }),
         Binary::BitAnd => fit(wide, reduced(wide, x) & reduced(wide, y)),
         Binary::BitOr => fit(wide, reduced(wide, x) | reduced(wide, y)),
         Binary::BitXor => fit(wide, reduced(wide, x) ^ reduced(wide, y)),

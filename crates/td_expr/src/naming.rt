@@ -7,7 +7,7 @@ use td_core::actions::{Action, ActionStep};
 use td_core::expressions::{CoreExpr, Node};
 
 /// Whether an expression names the value at a level (its place in scope, from 0).
-pub fn expression_names(level: usize, e: &CoreExpr) -> bool
+pub(crate) fn expression_names(level: usize, e: &CoreExpr) -> bool
     ensures { result ≡ names level e.now }
 {
     match &e.node {

@@ -5,7 +5,9 @@
 mod foreign;
 mod memory;
 mod noted;
+mod pieces;
 
 pub use foreign::ForeignWords;
 pub use memory::TdWords;
 pub use noted::{NotedWords, TdLoad};
+pub use pieces::{PieceWords, TdPiece};

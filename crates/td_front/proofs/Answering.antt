@@ -1,14 +1,10 @@
 -- What the whole answers, from what its passes do.
 use Rattle.std.proofs.Common.{◌≡◌, ℕ, List, Result, Ok, Err, IfOk, IfErr, MatchResult, ◌⊎◌, inl, inr, refl, sym, subst}
-use Rattle.td_core.specs.declared.module.Module.{Module}
-use Rattle.td_lexer.specs.declared.error.LexError.{LexError}
-use Rattle.td_lexer.specs.declared.error.LexError.TheVariants.{BadByte as BadByteAt, OpenComment as OpenCommentAt, BigNumber as BigNumberAt, NoMemory as NoTokens}
+use Rattle.td_front.specs.Imports.{Module, LexError, BadByte as BadByteAt, OpenComment as OpenCommentAt, BigNumber as BigNumberAt, NoMemory as NoTokens, Token, ParseError}
 use Rattle.td_lexer.specs.Splits.{Splits, IsRefused}
-use Rattle.td_ast.specs.declared.token.Token.{Token}
 use Rattle.td_grammar.specs.Spelling.{IsFirstRefused}
 use Rattle.td_grammar.specs.Limits.{IsFirstDeep, IsWithinLimits}
 use Rattle.td_grammar.specs.Parts.{input_text}
-use Rattle.td_parser.specs.declared.error.ParseError.{ParseError}
 use Rattle.td_parser.specs.declared.error.ParseError.TheVariants.{Unexpected as UnexpectedToken, Deep as DeepToken, NoMemory as NoTree}
 use Rattle.td_front.specs.declared.error.FrontError.{FrontError}
 use Rattle.td_front.specs.declared.error.FrontError.TheVariants.{NoMemory}

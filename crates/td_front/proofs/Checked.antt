@@ -2,9 +2,8 @@
 use Rattle.std.proofs.Common.{◌≡◌, ℕ, List, length, refl, sym, subst}
 use Rattle.std.proofs.lemmas.List.{length-map}
 use Rattle.td_num.specs.Lists.{Each}
-use Rattle.td_ast.specs.declared.parts.InputTree.{InputTree}
+use Rattle.td_front.specs.Imports.{InputTree, Module}
 use Rattle.td_ast.specs.declared.parts.InputTree.TheVariants.{Module as Parsed, Parts}
-use Rattle.td_core.specs.declared.module.Module.{Module}
 use Rattle.td_core.specs.WellFormed.{IsWhole, IsWithin, IsDefinitionNamed}
 use Rattle.td_elab_rules.specs.Modules.{StandsFor, module_of}
 use Rattle.td_elab_rules.specs.Laws.{ModulesAreFormed, ModulesAreCopying, ModulesAreWhole, ModulesAreSorted, FieldsAreWhole, ModulesAreNamed}

@@ -1,7 +1,6 @@
 -- How many tokens a text has.
 use Rattle.std.proofs.Common.{◌≡◌, ℕ, zero, suc, ◌+◌, ◌-◌, ◌≤◌, List, [], ◌∷◌, length, Result, Ok, Err, refl, arith}
-use Rattle.td_ast.specs.declared.token.Token.{Token}
-use Rattle.td_lexer.specs.declared.error.LexError.{LexError}
+use Rattle.td_front.specs.Imports.{Token, LexError}
 use Rattle.td_lexer.specs.declared.lexeme.Lexeme as lexemes
 use Rattle.td_lexer.specs.declared.lexeme.Lexeme.TheVariants as kinds
 use Rattle.td_lexer.specs.Scanner.{lexeme, width, with_token, with_lexeme, tokens_from}

@@ -1,12 +1,9 @@
 -- What an input is answered: it is admitted or has one refusal, and where it is linked that of its one tree.
 use Rattle.std.proofs.Common.{◌≡◌, Option, Some, None, Ok, Err, ◌⊎◌, inl, inr, refl, ap, ◌∙◌}
 use Rattle.td_ast.specs.declared.token.Span.{Span}
-use Rattle.td_ast.specs.declared.definitions.ModuleTree.{ModuleTree}
-use Rattle.td_ast.specs.declared.parts.InputTree.{InputTree}
+use Rattle.td_front.specs.Imports.{ModuleTree, InputTree, Excess, Twice}
 use Rattle.td_ast.specs.declared.parts.InputTree.TheVariants.{Module as Parsed}
-use Rattle.td_limits.specs.declared.limits.Excess.{Excess}
 use Rattle.td_limits.specs.Counts.{counts_passed}
-use Rattle.td_elab_rules.specs.declared.breach.Rule.TheVariants.{Twice}
 use Rattle.td_front_flat.specs.Flat.{flat, written, spelled_names, IsTwice, IsCycle, IsLinked}
 use Rattle.td_front_flat.specs.Laws.{HasAnswer, EachAnswered}
 use Rattle.td_front_flat_facts.specs.Laws.{OneAnswerEach}

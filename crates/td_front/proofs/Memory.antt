@@ -1,31 +1,22 @@
 -- Where memory may be lacking: a text has a token, and its tree a definition.
 use Rattle.std.proofs.Common.{◌≡◌, ℕ, suc, ◌+◌, ◌<◌, ◌≤◌, List, [], ◌∷◌, length, length-append, Result, Ok, Err, IsErrAnd, refl, sym, ap, subst, ◌∙◌, arith}
-use Rattle.td_ast.specs.declared.token.Token.{Token}
+use Rattle.td_front.specs.Imports.{Token, ModuleTree, InputTree, LexError, BadByte as BadByteAt, OpenComment as OpenCommentAt, BigNumber as BigNumberAt, NoMemory as NoTokens, ParseError, FlatError, ElabError, KindError, ArithError}
 use Rattle.td_ast.specs.declared.definitions.Def.{Def}
-use Rattle.td_ast.specs.declared.definitions.ModuleTree.{ModuleTree}
 use Rattle.td_ast.specs.declared.parts.PartTree.{PartTree}
-use Rattle.td_ast.specs.declared.parts.InputTree.{InputTree}
 use Rattle.td_ast.specs.declared.parts.InputTree.TheVariants.{Module as Parsed, Parts}
-use Rattle.td_lexer.specs.declared.error.LexError.{LexError}
-use Rattle.td_lexer.specs.declared.error.LexError.TheVariants.{BadByte as BadByteAt, OpenComment as OpenCommentAt, BigNumber as BigNumberAt, NoMemory as NoTokens}
 use Rattle.td_lexer.specs.Splits.{Splits, HasToken}
 use Rattle.td_grammar.specs.Definitions.{module_text}
 use Rattle.td_grammar.specs.Parts.{part, input_text}
 use Rattle.td_grammar.specs.Grammar.{Grammar, all_of}
 use Rattle.td_grammar.specs.Sequences.{some_of}
 use Rattle.td_grammar.specs.Laws.{OneTree, EitherForm}
-use Rattle.td_parser.specs.declared.error.ParseError.{ParseError}
 use Rattle.td_parser.specs.declared.error.ParseError.TheVariants.{Unexpected as UnexpectedToken, Deep as DeepToken, NoMemory as NoTree}
 use Rattle.td_elab_rules.specs.Known.{nothing_known}
 use Rattle.td_elab_rules.specs.Definitions.{known_after}
 use Rattle.td_elab_rules.specs.Modules.{all_names, module_from, module_of}
-use Rattle.td_front_flat.specs.declared.error.FlatError.{FlatError}
 use Rattle.td_front_flat.specs.declared.error.FlatError.TheVariants.{Twice as TwiceAt, Cycle as CycleAt, NoMemory as NotFlat}
-use Rattle.td_elab.specs.declared.elaborate.ElabError.{ElabError}
 use Rattle.td_elab.specs.declared.elaborate.ElabError.TheVariants.{Broken as BrokenAt, NoMemory as NoModule}
-use Rattle.td_kinds.specs.declared.error.KindError.{KindError}
 use Rattle.td_kinds.specs.declared.error.KindError.TheVariants.{ZeroElement as ZeroElementAt, RestNotLast as RestNotLastAt, NoMemory as NoKinds}
-use Rattle.td_arith.specs.declared.error.ArithError.{ArithError}
 use Rattle.td_arith.specs.declared.error.ArithError.TheVariants.{Unsafe as UnsafeAt, Room as RoomAt, NoMemory as NoSafety}
 use Rattle.td_front.specs.declared.error.FrontError.{FrontError}
 use Rattle.td_front.specs.declared.error.FrontError.TheVariants.{NoMemory}

@@ -1,15 +1,10 @@
 -- What the passes over an input answer, from what each does.
 use Rattle.std.proofs.Common.{◌≡◌, ℕ, ◌-◌, ◌^◌, ◌<◌, List, length, Result, Ok, Err, OnOk, IfOk, IfErr, ◌⊎◌, inl, inr, ◌↔◌, refl, sym, subst, arith}
-use Rattle.td_ast.specs.declared.token.Token.{Token}
-use Rattle.td_ast.specs.declared.definitions.ModuleTree.{ModuleTree}
-use Rattle.td_ast.specs.declared.parts.InputTree.{InputTree}
+use Rattle.td_front.specs.Imports.{Token, ModuleTree, InputTree, Module, LexError, FlatError}
 use Rattle.td_ast.specs.declared.parts.InputTree.TheVariants.{Module as Parsed, Parts}
-use Rattle.td_core.specs.declared.module.Module.{Module}
-use Rattle.td_lexer.specs.declared.error.LexError.{LexError}
 use Rattle.td_lexer.specs.Scanner.{tokens_of}
 use Rattle.td_lexer.specs.Splits.{Splits}
 use Rattle.td_grammar.specs.Laws.{EitherForm}
-use Rattle.td_front_flat.specs.declared.error.FlatError.{FlatError}
 use Rattle.td_front_flat.specs.declared.error.FlatError.TheVariants.{Twice as TwiceAt, Cycle as CycleAt, NoMemory as NotFlat}
 use Rattle.td_front_flat.specs.Flat.{flat, IsFault, IsLinked}
 use Rattle.td_front.specs.declared.error.FrontError.{FrontError}

@@ -1,12 +1,7 @@
 -- What a text is answered: it stands for one module or has one refusal.
 use Rattle.std.proofs.Common.{◌≡◌, ℕ, List, Result, Ok, Err, ◌⊎◌, inl, inr, ◌↔◌, refl, sym, ap, subst, ◌∙◌}
-use Rattle.td_ast.specs.declared.token.Token.{Token}
-use Rattle.td_ast.specs.declared.definitions.ModuleTree.{ModuleTree}
-use Rattle.td_ast.specs.declared.parts.InputTree.{InputTree}
+use Rattle.td_front.specs.Imports.{Token, ModuleTree, InputTree, Module, LexError, BadByte as BadByteAt, OpenComment as OpenCommentAt, BigNumber as BigNumberAt, NoMemory as NoTokens}
 use Rattle.td_ast.specs.declared.parts.InputTree.TheVariants.{Module as Parsed}
-use Rattle.td_core.specs.declared.module.Module.{Module}
-use Rattle.td_lexer.specs.declared.error.LexError.{LexError}
-use Rattle.td_lexer.specs.declared.error.LexError.TheVariants.{BadByte as BadByteAt, OpenComment as OpenCommentAt, BigNumber as BigNumberAt, NoMemory as NoTokens}
 use Rattle.td_lexer.specs.Scanner.{tokens_of}
 use Rattle.td_lexer.specs.Splits.{Splits, IsRefused}
 use Rattle.td_grammar.specs.Spelling.{IsFirstRefused}

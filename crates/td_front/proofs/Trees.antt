@@ -1,10 +1,8 @@
 -- What a tree is answered, pass by pass: it is admitted or has one refusal.
 use Rattle.std.proofs.Common.{◌≡◌, List, [], ◌∷◌, length, Option, Some, None, Result, Ok, Err, ◌⊎◌, inl, inr, refl, sym, ap, ◌∙◌, arith}
-use Rattle.td_ast.specs.declared.definitions.ModuleTree.{ModuleTree}
-use Rattle.td_core.specs.declared.module.Module.{Module}
+use Rattle.td_front.specs.Imports.{ModuleTree, Module, Excess}
 use Rattle.td_expr.specs.declared.safety.Unsafe as unsafes
 use Rattle.td_expr.specs.declared.safety.Unsafe.TheVariants as finding
-use Rattle.td_limits.specs.declared.limits.Excess.{Excess}
 use Rattle.td_limits.specs.Counts.{counts_passed}
 use Rattle.td_limits.specs.Sizes.{sizes_passed}
 use Rattle.td_elab_rules.specs.declared.breach.Breach.{Breach}

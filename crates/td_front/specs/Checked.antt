@@ -1,7 +1,7 @@
 -- What holds of each module that a text stands for (own rule). Layers above rest on this alone, and never look into trees.
 use Rattle.std.specs.Prelude.{◌≡◌, ◌⊎◌, ◌≤◌, ℕ, [], length, None}
 use Rattle.td_num.specs.Lists.{Each, AreApart}
-use Rattle.td_core.specs.declared.module.Module.{Module}
+use Rattle.td_front.specs.Imports.{Module}
 use Rattle.td_core.specs.Formed.{IsModuleFormed}
 use Rattle.td_core.specs.Copies.{IsCopying}
 use Rattle.td_core.specs.declared.limits.TheConstants.{MOST_NODES, MOST_DEPTH, MOST_WEIGHT}

@@ -1,19 +1,10 @@
 -- The errors of the passes, as errors of the whole.
 use Rattle.std.specs.Prelude.{ℕ, List}
-use Rattle.td_ast.specs.declared.token.Token.{Token}
-use Rattle.td_lexer.specs.declared.error.LexError.{LexError}
-use Rattle.td_lexer.specs.declared.error.LexError.TheVariants.{BadByte as BadByteAt, OpenComment as OpenCommentAt, BigNumber as BigNumberAt, NoMemory as NoTokens}
-use Rattle.td_parser.specs.declared.error.ParseError.{ParseError}
+use Rattle.td_front.specs.Imports.{Token, LexError, BadByte as BadByteAt, OpenComment as OpenCommentAt, BigNumber as BigNumberAt, NoMemory as NoTokens, ParseError, Excess, FlatError, Twice, ElabError, KindError, ArithError}
 use Rattle.td_parser.specs.declared.error.ParseError.TheVariants.{Unexpected as UnexpectedToken, Deep as DeepToken, NoMemory as NoTree}
-use Rattle.td_limits.specs.declared.limits.Excess.{Excess}
-use Rattle.td_front_flat.specs.declared.error.FlatError.{FlatError}
 use Rattle.td_front_flat.specs.declared.error.FlatError.TheVariants.{Twice as TwiceAt, Cycle as CycleAt, NoMemory as NotFlat}
-use Rattle.td_elab_rules.specs.declared.breach.Rule.TheVariants.{Twice}
-use Rattle.td_elab.specs.declared.elaborate.ElabError.{ElabError}
 use Rattle.td_elab.specs.declared.elaborate.ElabError.TheVariants.{Broken as BrokenAt, NoMemory as NoModule}
-use Rattle.td_kinds.specs.declared.error.KindError.{KindError}
 use Rattle.td_kinds.specs.declared.error.KindError.TheVariants.{ZeroElement as ZeroElementAt, RestNotLast as RestNotLastAt, NoMemory as NoKinds}
-use Rattle.td_arith.specs.declared.error.ArithError.{ArithError}
 use Rattle.td_arith.specs.declared.error.ArithError.TheVariants.{Unsafe as UnsafeAt, Room as RoomAt, NoMemory as NoSafety}
 use Rattle.td_front.specs.declared.error.FrontError.{FrontError}
 use Rattle.td_front.specs.declared.error.FrontError.TheVariants.{BadByte, OpenComment, BigNumber, Unexpected, Deep, Limit, Broken, Cycle, ZeroElement, RestNotLast, Unsafe, Room, NoMemory}

@@ -1,11 +1,9 @@
 -- Inputs: the counts are taken in the order of the text, then the breaches of parts, then the passes over the one tree
 -- that the input is (own rules). Of a module without a name this is what the passes over its tree say.
 use Rattle.std.specs.Prelude.{◌≡◌, ◌⊎◌, ◌<◌, ◌^◌, ℕ, List, length, Some, None}
-use Rattle.td_ast.specs.declared.parts.InputTree.{InputTree}
+use Rattle.td_front.specs.Imports.{InputTree, Module, Twice}
 use Rattle.td_ast.specs.declared.parts.InputTree.TheVariants.{Module as Parsed, Parts}
-use Rattle.td_core.specs.declared.module.Module.{Module}
 use Rattle.td_limits.specs.Counts.{counts_passed}
-use Rattle.td_elab_rules.specs.declared.breach.Rule.TheVariants.{Twice}
 use Rattle.td_elab_rules.specs.Modules.{module_of}
 use Rattle.td_front_flat.specs.Flat.{flat, written, spelled_names, IsTwice, IsCycle, IsLinked}
 use Rattle.td_front.specs.declared.error.FrontError.{FrontError}

@@ -1,9 +1,7 @@
 -- What holds of module texts and their refusals.
 use Rattle.std.specs.Prelude.{◌≡◌, ◌↔◌, ℕ, List, ◌⊎◌}
-use Rattle.td_ast.specs.declared.definitions.ModuleTree.{ModuleTree}
-use Rattle.td_ast.specs.declared.parts.InputTree.{InputTree}
+use Rattle.td_front.specs.Imports.{ModuleTree, InputTree, Module}
 use Rattle.td_ast.specs.declared.parts.InputTree.TheVariants.{Module as Parsed}
-use Rattle.td_core.specs.declared.module.Module.{Module}
 use Rattle.td_elab_rules.specs.Modules.{module_of}
 use Rattle.td_front_flat.specs.Flat.{flat, IsLinked}
 use Rattle.td_front.specs.declared.error.FrontError.{FrontError}

@@ -50,11 +50,11 @@ limit_words limit.Weight = codes "limit weight"
 
 -- an operator that isn't safe; `&`, `|` and `^` always are
 abbrev pub unsafe_words : Binary → List ℕ
-unsafe_words operator.Plus = codes "unsafe +"
-unsafe_words operator.Minus = codes "unsafe -"
-unsafe_words operator.Times = codes "unsafe *"
-unsafe_words operator.Over = codes "unsafe /"
-unsafe_words operator.Modulo = codes "unsafe %"
+unsafe_words operator.Add = codes "unsafe +"
+unsafe_words operator.Subtract = codes "unsafe -"
+unsafe_words operator.Multiply = codes "unsafe *"
+unsafe_words operator.Divide = codes "unsafe /"
+unsafe_words operator.Remainder = codes "unsafe %"
 unsafe_words operator.BitAnd = codes "unsafe &"
 unsafe_words operator.BitOr = codes "unsafe |"
 unsafe_words operator.BitXor = codes "unsafe ^"

@@ -1,9 +1,6 @@
 -- Module texts (own rule): which bytes stand for which module, and by what a text is refused that stands for none.
 use Rattle.std.specs.Prelude.{◌≡◌, ℕ, List, length, slice_get, Option, Some, None}
-use Rattle.td_ast.specs.declared.token.Token.{Token}
-use Rattle.td_ast.specs.declared.parts.InputTree.{InputTree}
-use Rattle.td_core.specs.declared.module.Module.{Module}
-use Rattle.td_lexer.specs.declared.error.LexError.TheVariants.{BadByte as BadByteAt, OpenComment as OpenCommentAt, BigNumber as BigNumberAt}
+use Rattle.td_front.specs.Imports.{Token, InputTree, Module, BadByte as BadByteAt, OpenComment as OpenCommentAt, BigNumber as BigNumberAt}
 use Rattle.td_lexer.specs.Splits.{Splits, IsRefused}
 use Rattle.td_grammar.specs.Spelling.{IsFirstRefused}
 use Rattle.td_grammar.specs.Limits.{IsFirstDeep, IsWithinLimits}

@@ -1,7 +1,7 @@
 -- The passes over a tree, one after the other (own rules): its counts, its rules of names, types, constants and actions,
 -- the kinds of its module, the safety of its module's operators and copies, its sizes. How far a tree comes, and where it is refused.
 use Rattle.std.specs.Prelude.{◌≡◌, ◌⊎◌, [], Some, None}
-use Rattle.td_ast.specs.declared.definitions.ModuleTree.{ModuleTree}
+use Rattle.td_front.specs.Imports.{ModuleTree}
 use Rattle.td_limits.specs.Counts.{counts_passed}
 use Rattle.td_limits.specs.Sizes.{sizes_passed}
 use Rattle.td_elab_rules.specs.Modules.{breaches, module_of}

@@ -1,7 +1,7 @@
 //! The module for which a text stands.
 
 ghost use Rattle.std.specs.Prelude.{◌≡◌, ◌<◌, ◌≤◌, ◌-◌, ◌^◌, ◌⊎◌, Err, length, IfOk, IfErr, MatchResult};
-ghost use Rattle.td_core.specs.declared.module.Module.{Module};
+ghost use Rattle.td_front.specs.Imports.{Module};
 ghost use Rattle.td_lexer.specs.Splits.{Splits, HasToken};
 ghost use Rattle.td_front.specs.Checked.{IsChecked};
 ghost use Rattle.td_front.specs.Errors.{of_parsing};
@@ -33,6 +33,21 @@ pub struct CheckedInput {
 /// module, of its operators, or of its sizes; in each of these passes the first in the order of the text, and after the
 /// pass over parts the first in their order. `NoMemory`: out of memory for a token or what it
 /// became; so it never comes of a text of white space and comments, nor of one that is refused before its first token.
+///
+/// The module of a text, or none of one that is too long to be asked about:
+///
+/// ```
+/// use std::alloc::Global;
+/// use td_core::Module;
+/// use td_front::{FrontError, check_module};
+///
+/// fn module_of(alloc: Global, text: &[u8]) -> Result<Option<Module>, FrontError> {
+///     if text.len() >= u32::MAX as usize {
+///         return Ok(None);
+///     }
+///     Ok(Some(check_module(alloc, text)?))
+/// }
+/// ```
 pub fn check_module(alloc: Global, text: &[u8]) -> Result<Module, FrontError>
     requires { length text.now < 2 ^ 32 - 1 }
     // What is answered is the module for which the text stands.

@@ -54,11 +54,11 @@ pub(crate) fn unsafe_words(op: Binary) -> &'static str
     ensures { result.now ≡ unsafe_words op }
 {
     match op {
-        Binary::Plus => "unsafe +",
-        Binary::Minus => "unsafe -",
-        Binary::Times => "unsafe *",
-        Binary::Over => "unsafe /",
-        Binary::Modulo => "unsafe %",
+        Binary::Add => "unsafe +",
+        Binary::Subtract => "unsafe -",
+        Binary::Multiply => "unsafe *",
+        Binary::Divide => "unsafe /",
+        Binary::Remainder => "unsafe %",
         Binary::BitAnd => "unsafe &",
         Binary::BitOr => "unsafe |",
         Binary::BitXor => "unsafe ^",

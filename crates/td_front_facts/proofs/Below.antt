@@ -1,7 +1,7 @@
 -- Numbers of definitions that are made of those of earlier ones: they stay when a definition is added.
 use Rattle.std.proofs.Common.{◌≡◌, ◌⊎◌, inl, inr, ℕ, zero, suc, ◌<◌, ◌≤◌, Bool, true, false, List, [], ◌∷◌, ◌++◌, length, Option, Some, refl, sym, ap, ◌∙◌, subst, arith, slice_get, nat_eq, length-append}
 use Rattle.std.proofs.lemmas.Bool.{eq-eqb, ne_eqb, cases_eq}
-use Rattle.td_core.specs.declared.module.TypeDef.{TypeDef}
+use Rattle.td_front_facts.specs.Imports.{TypeDef}
 use Rattle.td_core.specs.Weights.{either_number, below_by}
 
 get_append : (ds rest : List TypeDef) (n : ℕ) → n < length ds → slice_get (ds ++ rest) n ≡ slice_get ds n

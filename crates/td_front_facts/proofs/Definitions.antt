@@ -1,22 +1,16 @@
 -- A struct or casetype is within the limits of its tree.
 use Rattle.std.proofs.Common.{◌≡◌, ℕ, suc, ◌+◌, ◌≤◌, List, [], ◌∷◌, length, Option, Some, None, refl, ap, arith}
 use Rattle.td_num.specs.Lists.{Each}
-use Rattle.td_ast.specs.declared.fields.FieldTree.{FieldTree}
-use Rattle.td_ast.specs.declared.definitions.CaseTree.{CaseTree}
+use Rattle.td_front_facts.specs.Imports.{FieldTree, CaseTree, Def, Struct, Casetype, TypeDef, Known, Scope}
 use Rattle.td_ast.specs.declared.definitions.StructTree.{StructTree}
 use Rattle.td_ast.specs.declared.definitions.CasetypeTree.{CasetypeTree}
-use Rattle.td_ast.specs.declared.definitions.Def.{Def}
-use Rattle.td_ast.specs.declared.definitions.Def.TheVariants.{Struct, Casetype}
 use Rattle.td_limits.specs.Measures.{Measures}
 use Rattle.td_limits.specs.Counts.{longest_case, default_count, most_fields, count_cases, count_params}
 use Rattle.td_limits.specs.Nodes as text
 use Rattle.td_limits.specs.Depths.{uses_depth}
 use Rattle.td_limits.specs.Weights as weights
-use Rattle.td_core.specs.declared.module.TypeDef.{TypeDef}
 use Rattle.td_core.specs.Weights.{definition_depth, depth_of, total, head_nodes, body_nodes, cases_nodes, default_nodes, definition_weight, weight_of}
 use Rattle.td_core.specs.WellFormed.{OfSome, FieldsWithin, BodyWithin}
-use Rattle.td_elab_rules.specs.declared.known.Known.{Known}
-use Rattle.td_elab_rules.specs.declared.known.Scope.{Scope}
 use Rattle.td_elab_rules.specs.Parameters.{no_head}
 use Rattle.td_elab_rules.specs.Casetypes.{cases_core, default_core}
 use Rattle.td_elab_rules.specs.Definitions.{struct_head, struct_scope, struct_core, casetype_head, casetype_core}

@@ -1,6 +1,6 @@
 -- A core expression has no more nodes than its tree, and a core action no more than its statements.
 use Rattle.std.proofs.Common.{◌≡◌, ℕ, ◌+◌, ◌≤◌, Bool, true, false, cond, Option, Some, None, refl, arith, nat_lt, nat_le}
-use Rattle.td_ast.specs.declared.token.Span.{Span}
+use Rattle.td_front_facts.specs.Imports.{Span, Found, Known, Scope}
 use Rattle.td_ast.specs.declared.expressions.UnaryOperator.{UnaryOperator}
 use Rattle.td_ast.specs.declared.expressions.UnaryOperator.TheVariants.{Not, Complement}
 use Rattle.td_ast.specs.declared.actions.Assigned.{Assigned}
@@ -24,10 +24,7 @@ use Rattle.td_elab_rules.specs.declared.actions.Target.{Target}
 use Rattle.td_elab_rules.specs.declared.actions.Target.TheVariants as target
 use Rattle.td_elab_rules.specs.declared.known.Meaning.TheVariants as meaning
 use Rattle.td_elab_rules.specs.declared.known.Local.TheVariants as local
-use Rattle.td_elab_rules.specs.declared.known.Found.{Found}
 use Rattle.td_elab_rules.specs.declared.known.Found.TheVariants as found
-use Rattle.td_elab_rules.specs.declared.known.Known.{Known}
-use Rattle.td_elab_rules.specs.declared.known.Scope.{Scope}
 use Rattle.td_elab_rules.specs.Known.{found_in}
 use Rattle.td_elab_rules.specs.Sorts.{operation, narrowest, literal_type, sort_of, size_named, literal_of, found_core, start_core, size_core, truth_core, beside, unary_core, operation_core, range_core, core_of, option_core}
 use Rattle.td_elab_rules.specs.Actions.{stored_cell, stored_slot, scope_after, inside, set_core, read_core, statement_core, block_core, action_core}

@@ -2,31 +2,18 @@
 use Rattle.std.proofs.Common.{◌≡◌, ℕ, ◌+◌, ◌≤◌, Bool, true, false, cond, List, [], ◌∷◌, ◌++◌, length, map, Option, Some, None, refl, arith, length-append, slice_get}
 use Rattle.std.specs.List.{sum}
 use Rattle.std.proofs.lemmas.List.Sums.{sum_by-cons}
-use Rattle.td_num.specs.declared.number.NumberType.{NumberType}
+use Rattle.td_front_facts.specs.Imports.{NumberType, TypeKind, ExtentTree, Bytes, ByteSize, SingleElement, Zeroterm, Bits, FieldTree, Element, Field, TypeDef, FlatField, OpenUnit, Parameter, Found, Known, Scope}
 use Rattle.td_ast.specs.Trees.{Tree, tree_size}
-use Rattle.td_ast.specs.declared.fields.TypeKind.{TypeKind}
 use Rattle.td_ast.specs.declared.fields.TypeKind.TheVariants as type
-use Rattle.td_ast.specs.declared.fields.ExtentTree.{ExtentTree}
-use Rattle.td_ast.specs.declared.fields.ExtentTree.TheVariants.{Bytes, ByteSize, SingleElement, Zeroterm, Bits}
-use Rattle.td_ast.specs.declared.fields.FieldTree.{FieldTree}
 use Rattle.td_limits.specs.Nodes as text
 use Rattle.td_core.specs.Term.{Term, measure}
-use Rattle.td_core.specs.declared.module.Element.{Element}
 use Rattle.td_core.specs.declared.module.Element.TheVariants as element
 use Rattle.td_core.specs.declared.module.Part.{Part}
-use Rattle.td_core.specs.declared.module.Field.{Field}
-use Rattle.td_core.specs.declared.module.TypeDef.{TypeDef}
 use Rattle.td_core.specs.Weights.{option_nodes, terms_nodes, element_nodes, extent_nodes, part_nodes, action_nodes, total, inner_nodes, fields_nodes}
 use Rattle.td_elab_rules.specs.declared.fields.Readable.{Readable}
-use Rattle.td_elab_rules.specs.declared.fields.FlatField.{FlatField}
-use Rattle.td_elab_rules.specs.declared.fields.OpenUnit.{OpenUnit}
-use Rattle.td_elab_rules.specs.declared.known.Parameter.{Parameter}
 use Rattle.td_elab_rules.specs.declared.known.Parameter.TheVariants as parameter
 use Rattle.td_elab_rules.specs.declared.known.Meaning.TheVariants as meaning
-use Rattle.td_elab_rules.specs.declared.known.Found.{Found}
 use Rattle.td_elab_rules.specs.declared.known.Found.TheVariants as found
-use Rattle.td_elab_rules.specs.declared.known.Known.{Known}
-use Rattle.td_elab_rules.specs.declared.known.Scope.{Scope}
 use Rattle.td_elab_rules.specs.Known.{found_in, signature_at}
 use Rattle.td_elab_rules.specs.Sorts.{core_of, option_core}
 use Rattle.td_elab_rules.specs.Types.{args_core, args_cells, args_buffers, buffer_cells, fits, applied, found_element, kind_element, element_of}

@@ -1,22 +1,16 @@
 -- A definition has no more parameters, cells and copy buffers than its tree, and no more nodes there.
 use Rattle.std.proofs.Common.{◌≡◌, ℕ, ◌+◌, ◌≤◌, List, [], ◌∷◌, length, Option, Some, None, refl, ap, subst, sym, arith, length-append}
 use Rattle.std.proofs.lemmas.List.{length-map}
-use Rattle.td_num.specs.declared.number.Width.{Width}
+use Rattle.td_front_facts.specs.Imports.{Width, ParamTree, Measure, Meaning, Local, Known, Scope}
 use Rattle.td_ast.specs.declared.parameters.TargetTree.{TargetTree}
 use Rattle.td_ast.specs.declared.parameters.TargetTree.TheVariants as pointee
-use Rattle.td_ast.specs.declared.parameters.ParamTree.{ParamTree}
 use Rattle.td_ast.specs.declared.parameters.ParamTree.TheVariants as param
 use Rattle.td_names.specs.Names.{looked_up, number_of}
-use Rattle.td_limits.specs.declared.measures.Measure.{Measure}
 use Rattle.td_limits.specs.Measures.{Measures, type_cells, type_cells_of}
 use Rattle.td_limits.specs.Weights.{target_cells, param_cells}
 use Rattle.td_elab_rules.specs.declared.known.CellType.{CellType}
 use Rattle.td_elab_rules.specs.declared.known.CellType.TheVariants as cell
-use Rattle.td_elab_rules.specs.declared.known.Meaning.{Meaning}
 use Rattle.td_elab_rules.specs.declared.known.Meaning.TheVariants as meaning
-use Rattle.td_elab_rules.specs.declared.known.Local.{Local}
-use Rattle.td_elab_rules.specs.declared.known.Known.{Known}
-use Rattle.td_elab_rules.specs.declared.known.Scope.{Scope}
 use Rattle.td_elab_rules.specs.declared.parameters.Head.{Head}
 use Rattle.td_elab_rules.specs.Known.{found_in, slots_at, local_found, global_found}
 use Rattle.td_elab_rules.specs.Parameters.{plain_width, found_cell, cell_type, slot_cell, cells_of, buffer_room, value_head, cell_head, buffer_head, with_param, head_of}

@@ -1,13 +1,11 @@
 -- What names stand for in the module and in the limits of its text goes together.
 use Rattle.std.proofs.Common.{◌≡◌, ℕ, zero, suc, ◌<◌, ◌≤◌, Bool, true, false, List, [], ◌∷◌, ◌++◌, length, Option, Some, None, is_some, refl, sym, ap, ◌∙◌, subst, arith, slice_get, bytes_eq, length-append}
 use Rattle.std.specs.Prelude.{if◌then◌else◌}
-use Rattle.td_core.specs.declared.module.TypeDef.{TypeDef}
+use Rattle.td_front_facts.specs.Imports.{TypeDef, Measure, Meaning}
 use Rattle.td_core.specs.Weights.{definition_depth, depth_of, definition_weight, weight_of}
 use Rattle.td_names.specs.Names.{looked_up, declared}
-use Rattle.td_limits.specs.declared.measures.Measure.{Measure}
 use Rattle.td_limits.specs.Measures.{Measures, type_depth, type_weight, type_depth_of, type_weight_of}
 use Rattle.td_elab_rules.specs.declared.known.Slot.{Slot}
-use Rattle.td_elab_rules.specs.declared.known.Meaning.{Meaning}
 use Rattle.td_elab_rules.specs.declared.known.Meaning.TheVariants as meaning
 use Rattle.td_front_facts.proofs.Below.{stays}
 

@@ -1,21 +1,13 @@
 -- What holds of the names among tokens holds of the names that are written in the tree which they spell. Cited by other crates.
 use Rattle.std.proofs.Common.{◌≡◌, inl, inr, ℕ, Bool, true, false, List, [], ◌∷◌, ◌++◌, Option, Some, None, subst}
 use Rattle.td_num.specs.Lists.{Each}
-use Rattle.td_ast.specs.declared.token.Token.{Token}
-use Rattle.td_ast.specs.declared.token.Span.{Span}
-use Rattle.td_ast.specs.declared.token.TokenKind.{TokenKind}
+use Rattle.td_front_facts.specs.Imports.{Token, Span, TokenKind, FieldTree, ParamTree, CaseTree, Def, ModuleTree, PartTree}
 use Rattle.td_ast.specs.declared.token.TokenKind.TheVariants as kinds
 use Rattle.td_ast.specs.declared.names.Name.{Name}
 use Rattle.td_ast.specs.declared.names.NumberTree.{NumberTree}
 use Rattle.td_ast.specs.declared.names.ConstTree.{ConstTree}
-use Rattle.td_ast.specs.declared.fields.FieldTree.{FieldTree}
-use Rattle.td_ast.specs.declared.parameters.ParamTree.{ParamTree}
 use Rattle.td_ast.specs.declared.definitions.SlotKind.TheVariants as slots
 use Rattle.td_ast.specs.declared.definitions.SlotTree.{SlotTree}
-use Rattle.td_ast.specs.declared.definitions.CaseTree.{CaseTree}
-use Rattle.td_ast.specs.declared.definitions.Def.{Def}
-use Rattle.td_ast.specs.declared.definitions.ModuleTree.{ModuleTree}
-use Rattle.td_ast.specs.declared.parts.PartTree.{PartTree}
 use Rattle.td_ast.specs.Trees.{Tree}
 use Rattle.td_core.specs.WellFormed.{OfSome}
 use Rattle.td_grammar.specs.Grammar.{Grammar, ◌then◌, ◌making◌, maybe, all_of, ◌or◌, either_by}

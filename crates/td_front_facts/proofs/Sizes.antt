@@ -1,13 +1,8 @@
 -- Core fields are no deeper and no heavier than the fields of the tree, where earlier definitions aren't.
 use Rattle.std.proofs.Common.{◌≡◌, ℕ, ◌+◌, ◌*◌, ◌≤◌, Bool, true, false, cond, max, List, [], ◌∷◌, ◌++◌, length, map, Option, Some, None, refl, arith, length-append, slice_get}
-use Rattle.td_num.specs.declared.number.NumberType.{NumberType}
+use Rattle.td_front_facts.specs.Imports.{NumberType, TypeKind, ExtentTree, Bytes, ByteSize, SingleElement, Zeroterm, Bits, FieldTree, CaseTree, Element, Field, TypeDef, FlatField, OpenUnit, Meaning, Local, Found, Known, Scope}
 use Rattle.td_ast.specs.Trees.{Tree}
-use Rattle.td_ast.specs.declared.fields.TypeKind.{TypeKind}
 use Rattle.td_ast.specs.declared.fields.TypeKind.TheVariants as type
-use Rattle.td_ast.specs.declared.fields.ExtentTree.{ExtentTree}
-use Rattle.td_ast.specs.declared.fields.ExtentTree.TheVariants.{Bytes, ByteSize, SingleElement, Zeroterm, Bits}
-use Rattle.td_ast.specs.declared.fields.FieldTree.{FieldTree}
-use Rattle.td_ast.specs.declared.definitions.CaseTree.{CaseTree}
 use Rattle.td_names.specs.Names.{looked_up}
 use Rattle.td_limits.specs.Excesses.{greatest}
 use Rattle.td_limits.specs.Measures.{Measures, type_depth_of, type_weight_of}
@@ -16,22 +11,12 @@ use Rattle.td_limits.specs.Depths as depths
 use Rattle.td_ast.specs.Extents.{is_array}
 use Rattle.td_limits.specs.Weights as weights
 use Rattle.td_core.specs.Term.{Term}
-use Rattle.td_core.specs.declared.module.Element.{Element}
 use Rattle.td_core.specs.declared.module.Element.TheVariants as element
 use Rattle.td_core.specs.declared.module.Extent.{Extent}
 use Rattle.td_core.specs.declared.module.Extent.TheVariants.{Once, Filling, OnceFilling, UpToZero}
-use Rattle.td_core.specs.declared.module.Field.{Field}
-use Rattle.td_core.specs.declared.module.TypeDef.{TypeDef}
 use Rattle.td_core.specs.Weights.{of_named, as_array, fields_depth, cases_depth, default_depth, part_nodes, total, inner_nodes, field_weight, fields_weight, cases_weight, default_weight}
-use Rattle.td_elab_rules.specs.declared.fields.FlatField.{FlatField}
-use Rattle.td_elab_rules.specs.declared.fields.OpenUnit.{OpenUnit}
-use Rattle.td_elab_rules.specs.declared.known.Meaning.{Meaning}
 use Rattle.td_elab_rules.specs.declared.known.Meaning.TheVariants as meaning
-use Rattle.td_elab_rules.specs.declared.known.Local.{Local}
-use Rattle.td_elab_rules.specs.declared.known.Found.{Found}
 use Rattle.td_elab_rules.specs.declared.known.Found.TheVariants as found
-use Rattle.td_elab_rules.specs.declared.known.Known.{Known}
-use Rattle.td_elab_rules.specs.declared.known.Scope.{Scope}
 use Rattle.td_elab_rules.specs.Known.{found_in, local_found, global_found, signature_at}
 use Rattle.td_elab_rules.specs.Sorts.{core_of}
 use Rattle.td_elab_rules.specs.Types.{args_core, args_cells, args_buffers, buffer_cells, fits, applied, found_element, kind_element}

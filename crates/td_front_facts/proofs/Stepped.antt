@@ -1,26 +1,15 @@
 -- The steps of arrays are the sizes of their elements.
 use Rattle.std.proofs.Common.{◌≡◌, ℕ, List, [], ◌∷◌, refl, sym, subst, Option, Some, None}
 use Rattle.td_num.specs.Numbers.{bytes_in}
-use Rattle.td_num.specs.declared.number.Width.{Width}
+use Rattle.td_front_facts.specs.Imports.{Width, ExtentTree, FieldTree, ItemTree, CaseTree, Def, Define, Enum, Alias, Struct, Casetype, Output, ModuleTree, Element, TypeDef, Known, Scope}
 use Rattle.td_num.specs.declared.number.Width.TheVariants.{One, Two, Four, Eight}
 use Rattle.td_num.specs.Lists.{Each}
-use Rattle.td_ast.specs.declared.fields.ExtentTree.{ExtentTree}
 use Rattle.td_ast.specs.declared.fields.ExtentTree.TheVariants as after_name
-use Rattle.td_ast.specs.declared.fields.FieldTree.{FieldTree}
-use Rattle.td_ast.specs.declared.definitions.ItemTree.{ItemTree}
-use Rattle.td_ast.specs.declared.definitions.CaseTree.{CaseTree}
-use Rattle.td_ast.specs.declared.definitions.Def.{Def}
-use Rattle.td_ast.specs.declared.definitions.Def.TheVariants.{Define, Enum, Alias, Struct, Casetype, Output}
-use Rattle.td_ast.specs.declared.definitions.ModuleTree.{ModuleTree}
 use Rattle.td_core.specs.Term.{Term}
-use Rattle.td_core.specs.declared.module.Element.{Element}
 use Rattle.td_core.specs.declared.module.Element.TheVariants as element
-use Rattle.td_core.specs.declared.module.TypeDef.{TypeDef}
 use Rattle.td_core.specs.WellFormed.{OfSome, EachField}
 use Rattle.td_kinds.specs.Kinds.{constant_size, exactly}
 use Rattle.td_core.specs.Sizes.{IsStepOf, HasSteps, IsFieldStepped}
-use Rattle.td_elab_rules.specs.declared.known.Known.{Known}
-use Rattle.td_elab_rules.specs.declared.known.Scope.{Scope}
 use Rattle.td_elab_rules.specs.Known.{nothing_known}
 use Rattle.td_elab_rules.specs.Sorts.{core_of}
 use Rattle.td_elab_rules.specs.Types.{element_of}

@@ -4,8 +4,7 @@ use Rattle.std.proofs.Common.{◌≡◌, ℕ, Bool, true, false, ◌&&◌, List,
 use Rattle.std.specs.Prelude.{if◌then◌else◌}
 use Rattle.td_num.specs.Lists.{Each}
 use Rattle.td_num.proofs.Truths.{both_true}
-use Rattle.td_ast.specs.declared.token.Token.{Token}
-use Rattle.td_ast.specs.declared.token.TokenKind.{TokenKind}
+use Rattle.td_front_facts.specs.Imports.{Token, TokenKind}
 use Rattle.td_ast.specs.declared.token.TokenKind.TheVariants.{Name}
 use Rattle.td_lexer.specs.Spellings.{Entry, kind_in, or_else, keyword_kind, definition_words, expression_words, number_types, marked_words, punctuation_of_two, operators, delimiters, single_kind, punctuation_kind}
 use Rattle.td_lexer.specs.Splits.{IsName, Begins, SplitsUpTo, Splits}

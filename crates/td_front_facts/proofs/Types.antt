@@ -5,21 +5,12 @@ use Rattle.std.specs.Str.{bytes_eq}
 use Rattle.std.proofs.lemmas.Slice.Eq.{bytes_eq-Decides}
 use Rattle.td_num.specs.Lists.{Each}
 use Rattle.td_num.proofs.Lists.{each_append, each_at}
-use Rattle.td_ast.specs.declared.definitions.ItemTree.{ItemTree}
-use Rattle.td_ast.specs.declared.definitions.Def.{Def}
-use Rattle.td_ast.specs.declared.definitions.Def.TheVariants.{Define, Enum, Alias, Struct, Casetype, Output}
-use Rattle.td_ast.specs.declared.definitions.ModuleTree.{ModuleTree}
-use Rattle.td_ast.specs.declared.parts.PartTree.{PartTree}
-use Rattle.td_ast.specs.declared.parts.InputTree.{InputTree}
+use Rattle.td_front_facts.specs.Imports.{ItemTree, Def, Define, Enum, Alias, Struct, Casetype, Output, ModuleTree, PartTree, InputTree, NameId, TypeDef, Module, Known}
 use Rattle.td_ast.specs.declared.parts.InputTree.TheVariants.{Module as Parsed, Parts}
 use Rattle.td_names.specs.Names.{number_of}
-use Rattle.td_core.specs.declared.module.NameId.{NameId}
-use Rattle.td_core.specs.declared.module.TypeDef.{TypeDef}
-use Rattle.td_core.specs.declared.module.Module.{Module}
 use Rattle.td_core.specs.Entries.{bytes_or_none, name_bytes}
 use Rattle.td_core.specs.WellFormed.{IsDefinitionNamed}
 use Rattle.td_lexer.specs.Splits.{IsName, IsDotted}
-use Rattle.td_elab_rules.specs.declared.known.Known.{Known}
 use Rattle.td_elab_rules.specs.Known.{nothing_known}
 use Rattle.td_elab_rules.specs.Enums.{next_value, item_value, with_item, items_after, with_enum_name}
 use Rattle.td_elab_rules.specs.Definitions.{struct_core, casetype_core, after, known_after}

@@ -2,15 +2,11 @@
 use Rattle.std.proofs.Common.{◌≡◌, ℕ, ◌+◌, ◌≤◌, Bool, List, [], ◌∷◌, ◌++◌, length, map, Option, Some, None, refl, sym, subst, arith, length-append}
 use Rattle.std.proofs.lemmas.List.{length-map}
 use Rattle.td_num.specs.Lists.{Each}
-use Rattle.td_ast.specs.declared.definitions.ItemTree.{ItemTree}
-use Rattle.td_ast.specs.declared.definitions.Def.{Def}
-use Rattle.td_ast.specs.declared.definitions.Def.TheVariants.{Define, Enum, Alias, Struct, Casetype, Output}
-use Rattle.td_ast.specs.declared.definitions.ModuleTree.{ModuleTree}
+use Rattle.td_front_facts.specs.Imports.{ItemTree, Def, Define, Enum, Alias, Struct, Casetype, Output, ModuleTree, Measure, TypeDef, Parameter, Meaning, Known}
 use Rattle.td_ast.specs.declared.names.PlainTree.{PlainTree}
 use Rattle.td_ast.specs.declared.names.PlainTree.TheVariants as plain
 use Rattle.td_names.specs.Names.{looked_up, declared}
 use Rattle.td_limits.specs.declared.limits.Limit.TheVariants as limit
-use Rattle.td_limits.specs.declared.measures.Measure.{Measure}
 use Rattle.td_limits.specs.Excesses.{above, first_excess, definition_name}
 use Rattle.td_limits.specs.Measures.{Measures}
 use Rattle.td_limits.specs.Counts.{most_fields, count_cases, count_params, definition_counts, count_excesses}
@@ -18,13 +14,9 @@ use Rattle.td_limits.specs.Nodes.{definition_nodes}
 use Rattle.td_limits.specs.Depths.{plain_depth, uses_depth}
 use Rattle.td_limits.specs.Weights as weights
 use Rattle.td_limits.specs.Sizes.{measure_of, member, with_members, with_definition, definition_sizes, size_excesses}
-use Rattle.td_core.specs.declared.module.TypeDef.{TypeDef}
 use Rattle.td_core.specs.Weights.{definition_depth, depth_of, below_by, head_nodes, body_nodes, definitions_nodes, definition_weight, weight_of}
 use Rattle.td_core.specs.WellFormed.{DefinitionWithin, IsWithin}
-use Rattle.td_elab_rules.specs.declared.known.Parameter.{Parameter}
-use Rattle.td_elab_rules.specs.declared.known.Meaning.{Meaning}
 use Rattle.td_elab_rules.specs.declared.known.Meaning.TheVariants as meaning
-use Rattle.td_elab_rules.specs.declared.known.Known.{Known}
 use Rattle.td_elab_rules.specs.Known.{nothing_known, global_found, signature_at}
 use Rattle.td_elab_rules.specs.Constants.{number_or_zero}
 use Rattle.td_elab_rules.specs.Enums.{next_value, item_value, with_item, items_after, with_enum_name, after_enum}

@@ -3,11 +3,8 @@ use Rattle.std.proofs.Common.{◌≡◌, ℕ, zero, suc, List, [], ◌∷◌, ma
 use Rattle.std.specs.Prelude.{slice_get}
 use Rattle.td_num.specs.Lists.{Each, AreApart}
 use Rattle.td_num.proofs.Lists.{all_among, each_at, each_map}
-use Rattle.td_ast.specs.declared.token.Token.{Token}
-use Rattle.td_ast.specs.declared.parts.PartTree.{PartTree}
-use Rattle.td_ast.specs.declared.parts.InputTree.{InputTree}
+use Rattle.td_front_facts.specs.Imports.{Token, PartTree, InputTree, Module}
 use Rattle.td_ast.specs.declared.parts.InputTree.TheVariants.{Module as Parsed, Parts}
-use Rattle.td_core.specs.declared.module.Module.{Module}
 use Rattle.td_lexer.specs.Splits.{Splits, IsName, IsLongName}
 use Rattle.td_grammar.specs.Parts.{input_text}
 use Rattle.td_grammar.specs.Laws.{EitherForm}

@@ -1,16 +1,12 @@
 -- What holds of each module that an admitted tree stands for.
 use Rattle.std.specs.Prelude.{◌≡◌, ◌⊎◌, ◌≤◌, ℕ, List, None, slice_get}
 use Rattle.td_num.specs.Lists.{Each, AreApart}
-use Rattle.td_ast.specs.declared.token.Token.{Token}
-use Rattle.td_ast.specs.declared.definitions.ModuleTree.{ModuleTree}
-use Rattle.td_ast.specs.declared.parts.InputTree.{InputTree}
+use Rattle.td_front_facts.specs.Imports.{Token, ModuleTree, InputTree, NameId, Module}
 use Rattle.td_ast.specs.declared.parts.InputTree.TheVariants.{Module as Parsed}
 use Rattle.td_lexer.specs.Splits.{Splits, IsName, IsDotted, IsLongName}
 use Rattle.td_grammar.specs.Parts.{input_text}
 use Rattle.td_limits.specs.Counts.{counts_passed}
 use Rattle.td_limits.specs.Sizes.{sizes_passed}
-use Rattle.td_core.specs.declared.module.NameId.{NameId}
-use Rattle.td_core.specs.declared.module.Module.{Module}
 use Rattle.td_core.specs.declared.limits.TheConstants.{MOST_NODES, MOST_DEPTH, MOST_WEIGHT}
 use Rattle.td_core.specs.Entries.{bytes_or_none}
 use Rattle.td_core.specs.Weights.{depth_of, definitions_nodes, weight_of}

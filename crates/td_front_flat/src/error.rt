@@ -2,19 +2,15 @@
 
 use std::alloc::AllocError;
 use td_ast::token::Span;
-use thiserror::Error;
 
 /// Why an input has no tree.
-#[derive(Clone, Copy, PartialEq, Eq, Debug, Error)]
+#[derive(Clone, Copy, PartialEq, Eq)]
 pub enum FlatError {
     /// N2: a part has the name of an earlier one.
-    #[error("name twice")]
     Twice { span: Span },
     /// N5: a part is used in a cycle.
-    #[error("module cycle")]
     Cycle { span: Span },
     /// There was no memory for the tree.
-    #[error("out of memory")]
     NoMemory,
 }
 

@@ -2,10 +2,7 @@
 use Rattle.std.proofs.Common.{◌≡◌, ℕ, Bool, true, false, List, [], ◌∷◌, ◌++◌, Some, None, nat_lt, sym, ap, subst, ◌∙◌, arith}
 use Rattle.std.proofs.lemmas.Bool.Decides.{nat_tests}
 use Rattle.td_num.specs.Lists.{Each}
-use Rattle.td_ast.specs.declared.token.Span.{Span}
-use Rattle.td_ast.specs.declared.names.Name.{Name}
-use Rattle.td_ast.specs.declared.parts.PartTree.{PartTree}
-use Rattle.td_ast.specs.declared.parts.InputTree.TheVariants.{Module, Parts}
+use Rattle.td_front_flat_facts.specs.Imports.{Span, Name, PartTree, Module, Parts}
 use Rattle.td_front_flat.specs.Order.{IsCyclic, IsFirstCyclic, NoneCyclic, uses_at, first_twice}
 use Rattle.td_front_flat_facts.specs.Laws.{OneAnswerEach}
 

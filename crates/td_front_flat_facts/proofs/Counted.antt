@@ -4,11 +4,7 @@ use Rattle.std.specs.Prelude.{slice_get}
 use Rattle.std.proofs.lemmas.Bool.{le-ltb}
 use Rattle.td_num.specs.Lists.{Each}
 use Rattle.td_num.proofs.Lists.{each_append}
-use Rattle.td_ast.specs.declared.token.Span.{Span}
-use Rattle.td_ast.specs.declared.definitions.Def.{Def}
-use Rattle.td_ast.specs.declared.parts.PartTree.{PartTree}
-use Rattle.td_ast.specs.declared.parts.InputTree.TheVariants.{Module, Parts}
-use Rattle.td_front_flat.specs.declared.own.Own.{Own}
+use Rattle.td_front_flat_facts.specs.Imports.{Span, Def, PartTree, Module, Parts, Own}
 use Rattle.td_front_flat.specs.Definitions.{flat_definition, own_of}
 use Rattle.td_front_order.specs.Order.{order}
 use Rattle.td_front_flat.specs.Order.{names_of, graph_of}

@@ -5,11 +5,7 @@ use Rattle.td_ast.specs.declared.fields.TypeKind.{TypeKind}
 use Rattle.td_ast.specs.declared.fields.TypeKind.TheVariants as type
 use Rattle.td_ast.specs.declared.fields.ExtentTree.{ExtentTree}
 use Rattle.td_ast.specs.declared.fields.ExtentTree.TheVariants.{Bytes, ByteSize, SingleElement, Zeroterm, Bits}
-use Rattle.td_ast.specs.declared.fields.FieldTree.{FieldTree}
-use Rattle.td_ast.specs.declared.parameters.ParamTree.{ParamTree}
-use Rattle.td_ast.specs.declared.definitions.CaseTree.{CaseTree}
-use Rattle.td_ast.specs.declared.definitions.Def.{Def}
-use Rattle.td_ast.specs.declared.definitions.Def.TheVariants.{Define, Enum, Alias, Struct, Casetype, Output}
+use Rattle.td_front_flat_facts.specs.Imports.{FieldTree, ParamTree, CaseTree, Def, Define, Enum, Alias, Struct, Casetype, Output, Own}
 use Rattle.td_ast.specs.declared.actions.Assigned.{Assigned}
 use Rattle.td_ast.specs.declared.actions.Assigned.TheVariants.{Value, FieldPtr}
 use Rattle.td_ast.specs.declared.actions.ActionTree.{ActionTree}
@@ -17,7 +13,6 @@ use Rattle.td_ast.specs.declared.actions.ActionTree.TheVariants.{Done, Copied}
 use Rattle.td_ast.specs.Trees.{Tree, tree_size}
 use Rattle.td_ast.specs.Trees as tree
 use Rattle.td_ast.specs.Statements.{Statement, Store, StoreField, Var, If, IfElse, Return, Abort, Statements, End, More, block_of}
-use Rattle.td_front_flat.specs.declared.own.Own.{Own}
 use Rattle.td_front_flat.specs.Expressions.{flat_tree, flat_option, flat_assigned, scope_after, flat_statement, flat_block, flat_statements, flat_action}
 use Rattle.td_front_flat.specs.Definitions.{flat_params, with_param, flat_kind, flat_extent, flat_field, flat_fields, with_field, flat_item, flat_case, flat_default, flat_slot, flat_definition, head_scope}
 use Rattle.td_limits.specs.Excesses.{greatest}

@@ -9,7 +9,7 @@ use Rattle.td_num.specs.Numbers.{byte_of}
 use Rattle.td_num.specs.Lists.{Each}
 use Rattle.td_num.proofs.Truths.{both_true}
 use Rattle.td_num.proofs.Digits.{byte_below}
-use Rattle.td_ast.specs.declared.parts.PartTree.{PartTree}
+use Rattle.td_front_flat_facts.specs.Imports.{PartTree}
 use Rattle.td_lexer.specs.Bytes.{is_letter, is_word_byte, every}
 use Rattle.td_lexer.specs.Splits.{IsName, IsDotted}
 use Rattle.td_names.specs.Names.{is_seen}

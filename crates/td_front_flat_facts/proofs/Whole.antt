@@ -7,8 +7,7 @@ use Rattle.td_num.specs.Lists.{is_among}
 use Rattle.td_num.specs.Numbers.{places_from}
 use Rattle.td_num.proofs.Equals.{equal_itself}
 use Rattle.td_num.proofs.Truths.{or_left, or_right}
-use Rattle.td_ast.specs.declared.names.Name.{Name}
-use Rattle.td_ast.specs.declared.parts.PartTree.{PartTree}
+use Rattle.td_front_flat_facts.specs.Imports.{Name, PartTree}
 use Rattle.td_names.specs.Names.{is_seen, number_of}
 use Rattle.td_front_flat.specs.Uses.{part_uses}
 use Rattle.td_front_order.specs.Order.{used_by, IsWithin, is_ready, next, turned, taken_after, order, Reaches}

@@ -3,18 +3,11 @@ use Rattle.std.proofs.Common.{◌≡◌, ℕ, zero, suc, ◌<◌, Bool, true, fa
 use Rattle.std.specs.Prelude.{slice_get}
 use Rattle.td_num.specs.Lists.{Each}
 use Rattle.td_num.proofs.Lists.{each_at, each_append}
-use Rattle.td_ast.specs.declared.fields.FieldTree.{FieldTree}
-use Rattle.td_ast.specs.declared.parameters.ParamTree.{ParamTree}
+use Rattle.td_front_flat_facts.specs.Imports.{FieldTree, ParamTree, CaseTree, Def, Define, Enum, Alias, Struct, Casetype, Output, PartTree, Module, Parts, Own}
 use Rattle.td_ast.specs.declared.parameters.ParamTree.TheVariants as param
-use Rattle.td_ast.specs.declared.definitions.CaseTree.{CaseTree}
 use Rattle.td_ast.specs.declared.definitions.SlotTree.{SlotTree}
-use Rattle.td_ast.specs.declared.definitions.Def.{Def}
-use Rattle.td_ast.specs.declared.definitions.Def.TheVariants.{Define, Enum, Alias, Struct, Casetype, Output}
-use Rattle.td_ast.specs.declared.parts.PartTree.{PartTree}
-use Rattle.td_ast.specs.declared.parts.InputTree.TheVariants.{Module, Parts}
 use Rattle.td_lexer.specs.Splits.{IsName}
 use Rattle.td_names.specs.Names.{is_seen}
-use Rattle.td_front_flat.specs.declared.own.Own.{Own}
 use Rattle.td_front_flat.specs.Names.{of_part, given}
 use Rattle.td_front_flat.specs.Definitions.{flat_params, with_param, flat_fields, with_field, flat_case, flat_default, flat_slot, flat_definition, flat_part, own_of, head_scope}
 use Rattle.td_front_flat.specs.Order.{names_of, graph_of, order}

@@ -1,10 +1,8 @@
 -- What holds of flat inputs.
 use Rattle.std.specs.Prelude.{◌≡◌, ◌⊎◌, ◌<◌, ℕ, true, List, [], length, None}
 use Rattle.td_num.specs.Lists.{Each, is_among}
-use Rattle.td_ast.specs.declared.token.Span.{Span}
-use Rattle.td_ast.specs.declared.parts.PartTree.{PartTree}
+use Rattle.td_front_flat_facts.specs.Imports.{Span, PartTree, Module, Parts}
 use Rattle.td_ast.specs.declared.parts.InputTree.{InputTree}
-use Rattle.td_ast.specs.declared.parts.InputTree.TheVariants.{Module, Parts}
 use Rattle.td_front_flat.specs.Names.{of_part, spelled}
 use Rattle.td_front_order.specs.Order.{order}
 use Rattle.td_front_flat.specs.Order.{names_of, graph_of, first_twice, NoCycle}

@@ -37,6 +37,7 @@ fn post<J: Naming, R: Wait>(
             Ok(()) => return,
             Err(full) => waiting = full.post,
         }
+        // It yields and isn't parked, as a worker does (worker.rt).
         thread::yield_now();
     }
     unreachable!()

@@ -50,6 +50,8 @@ fn take<J: Naming, R: Wait>(rt: &R, ring: &Ring<J>, pass: &mut TakePass) -> Post
         if let Some(post) = ring.take(rt, pass) {
             return post;
         }
+        // It yields and isn't parked: who parks looks at a word without a seat, so no history would tell of it, and each guest that posts
+        // would have to wake somebody.
         thread::yield_now();
     }
     unreachable!()

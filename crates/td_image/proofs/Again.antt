@@ -4,11 +4,8 @@ use Rattle.std.proofs.Common.{◌≡◌, ℕ, zero, suc, ◌-◌, ◌^◌, ◌�
 use Rattle.std.specs.Prelude.{nat_le, nat_lt, ◌==◌, cond}
 use Rattle.std.proofs.lemmas.Bool.{leb-true, le-leb}
 use Rattle.td_num.specs.Lists.{Each}
-use Rattle.td_ir.specs.declared.instructions.Instr.{Instr}
+use Rattle.td_image.specs.Imports.{Instr, Parts, Site, Routine}
 use Rattle.td_ir.specs.declared.instructions.Instr.TheVariants as i
-use Rattle.td_ir.specs.declared.tables.Parts.{Parts}
-use Rattle.td_ir.specs.declared.tables.Site.{Site}
-use Rattle.td_ir.specs.declared.tables.Routine.{Routine}
 use Rattle.td_ir.specs.Tables.{site_of, first_of, end_of}
 use Rattle.td_image_upgrade.specs.Upgrade.{used_by, renumbered, routine_code, number_in, own_code, code_below, sites_below, upgraded}
 use Rattle.td_image_upgrade.specs.Laws.{IsDivided}

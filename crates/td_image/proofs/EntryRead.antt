@@ -1,9 +1,6 @@
 -- An entry point is read as its parts are, one behind the other.
 use Rattle.std.proofs.Common.{◌≡◌, ℕ, List, length, Ok, refl}
-use Rattle.td_core.specs.declared.module.NameId.{NameId}
-use Rattle.td_core.specs.declared.module.Param.{Param}
-use Rattle.td_core.specs.declared.module.Cell.{Cell}
-use Rattle.td_ir.specs.declared.tables.Routine.{Routine}
+use Rattle.td_image.specs.Imports.{NameId, Param, Cell, Routine}
 use Rattle.td_image.specs.declared.fault.ReadError.{ReadError}
 use Rattle.td_image.specs.declared.fault.ReadError.TheVariants as errors
 use Rattle.td_image.specs.Format.{times}

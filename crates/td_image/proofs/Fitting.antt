@@ -2,13 +2,7 @@
 use Rattle.std.proofs.Common.{◌≡◌, ℕ, zero, suc, ◌+◌, ◌-◌, ◌^◌, ◌≤◌, ◌<◌, inl, inr, Bool, true, false, ◌&&◌, ◌||◌, not, List, [], ◌∷◌, length, map, Option, Some, None, refl, sym, ap, subst, ◌∙◌, arith, slice_index_or}
 use Rattle.std.specs.Prelude.{nat_le, nat_lt, ◌==◌}
 use Rattle.std.proofs.lemmas.Bool.{eqb-true, leb-true, ltb-true}
-use Rattle.td_core.specs.declared.module.NameId.{NameId}
-use Rattle.td_core.specs.declared.module.Param.{Param}
-use Rattle.td_core.specs.declared.module.Cell.{Cell}
-use Rattle.td_ir.specs.declared.tables.Parts.{Parts}
-use Rattle.td_ir.specs.declared.tables.Site.{Site}
-use Rattle.td_ir.specs.declared.tables.Routine.{Routine}
-use Rattle.td_ir.specs.declared.tables.EntryPoint.{EntryPoint}
+use Rattle.td_image.specs.Imports.{NameId, Param, Cell, Parts, Site, Routine, EntryPoint}
 use Rattle.td_ir.specs.Tables.{routine_of, site_of, entry_of, set_of, param_of, cell_of, buffer_of, begin}
 use Rattle.td_ir.specs.WellFormed.{IsName, IsField, IsRoutine, IsCellNamed, IsEntry, Rises, IsCode}
 use Rattle.td_ir.specs.Tables.{lengths_of}

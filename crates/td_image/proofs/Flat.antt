@@ -3,18 +3,11 @@ use Rattle.std.proofs.Common.{◌≡◌, ℕ, ◌-◌, List, [], ◌∷◌, ◌+
 use Rattle.std.specs.List.{flat_map}
 use Rattle.std.specs.Int.{w8, w16, w32, w64, to_le_bytes}
 use Rattle.std.proofs.lemmas.List.Concat.{flat_map-cons}
-use Rattle.td_ir.specs.declared.tables.Parts.{Parts}
+use Rattle.td_image.specs.Imports.{Parts, Fields, Site, Routine, NameId, Param, Cell, EntryPoint}
 use Rattle.td_image.specs.declared.limits.TheConstants.{MAGIC, VERSION, MOST_NUMBERS}
 use Rattle.td_names.specs.Names.{with_name}
 use Rattle.td_image.specs.declared.version.ImageVersion.TheVariants.{Third}
 use Rattle.td_image.specs.Answer.{written}
-use Rattle.td_ir.specs.declared.fields.Fields.{Fields}
-use Rattle.td_ir.specs.declared.tables.Site.{Site}
-use Rattle.td_ir.specs.declared.tables.Routine.{Routine}
-use Rattle.td_core.specs.declared.module.NameId.{NameId}
-use Rattle.td_core.specs.declared.module.Param.{Param}
-use Rattle.td_core.specs.declared.module.Cell.{Cell}
-use Rattle.td_ir.specs.declared.tables.EntryPoint.{EntryPoint}
 use Rattle.td_image.specs.declared.routines.Room.{Room}
 use Rattle.td_image.specs.Format.{Format, all_bytes, number, times}
 use Rattle.td_image.specs.Image as format

@@ -1,8 +1,7 @@
 -- An instruction's fields give it back, and those that fit are given back.
 use Rattle.std.proofs.Common.{◌≡◌, ℕ, zero, suc, ◌≤◌, Bool, cond, refl, arith}
-use Rattle.td_ir.specs.declared.instructions.Instr.{Instr}
+use Rattle.td_image.specs.Imports.{Instr, Fields}
 use Rattle.td_ir.specs.declared.instructions.Instr.TheVariants as i
-use Rattle.td_ir.specs.declared.fields.Fields.{Fields}
 use Rattle.td_ir.specs.declared.opcodes.OperandField.TheVariants as field
 use Rattle.td_ir.specs.Opcodes.{has}
 use Rattle.td_ir.specs.Fields.{instruction_by, instruction_of, fields_of}

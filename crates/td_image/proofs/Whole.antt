@@ -3,13 +3,8 @@ use Rattle.std.proofs.Common.{◌≡◌, ℕ, ◌-◌, ◌≤◌, inl, inr, Bool
 use Rattle.std.specs.Prelude.{nat_le, nat_lt, ◌==◌}
 use Rattle.std.specs.Int.{Width as Size, w8, w16, w32, w64}
 use Rattle.std.proofs.lemmas.Bool.{eqb-true, leb-true}
-use Rattle.td_num.specs.declared.number.Width.{Width}
-use Rattle.td_num.specs.declared.number.Width.TheVariants.{One, Two, Four, Eight}
-use Rattle.td_core.specs.declared.module.CellKind.{CellKind}
-use Rattle.td_core.specs.declared.module.CellKind.TheVariants.{Number, Pointer}
+use Rattle.td_image.specs.Imports.{Width, One, Two, Four, Eight, CellKind, Number, Pointer, Routine, Parts, Fields}
 use Rattle.td_names.specs.Names.{is_seen, with_name}
-use Rattle.td_ir.specs.declared.tables.Routine.{Routine}
-use Rattle.td_ir.specs.declared.tables.Parts.{Parts}
 use Rattle.td_image.specs.declared.fault.Cause.{Cause}
 use Rattle.td_image.specs.declared.fault.Cause.TheVariants.{Magic, Version, Field}
 use Rattle.td_image.specs.declared.limits.TheConstants.{MAGIC, VERSION, SECOND_VERSION, FIRST_VERSION, MOST_CELLS, MOST_BUFFERS, MOST_ROOM, MOST_PARAMETERS, MOST_REGISTERS, NO_FIELD}
@@ -18,7 +13,6 @@ use Rattle.td_image.specs.declared.version.ImageVersion.{ImageVersion}
 use Rattle.td_image.specs.declared.version.ImageVersion.TheVariants.{First, Second, Third}
 use Rattle.td_image.specs.Versions.{number_of, is_version, version_of, most_rows, most_numbers, most_instructions, most_mapped, last_kind, has_owners, has_buffers}
 use Rattle.td_image.specs.declared.routines.Room.{Room}
-use Rattle.td_ir.specs.declared.fields.Fields.{Fields}
 use Rattle.td_image.specs.Format.{Format, number, text, allowed, ◌then◌, times}
 use Rattle.td_ir.specs.declared.opcodes.OperandField.TheVariants as field
 use Rattle.td_ir.specs.Opcodes.{has}

@@ -7,26 +7,14 @@ use Rattle.std.proofs.lemmas.Bool.{le-leb, lt-ltb}
 use Rattle.std.proofs.lemmas.Bool.Decides.{Decides-eqb}
 use Rattle.std.proofs.lemmas.List.Folds.{list_any-append}
 use Rattle.std.proofs.lemmas.Slice.Eq.{bytes_eq-Decides}
-use Rattle.td_num.specs.declared.number.Width.{Width}
-use Rattle.td_num.specs.declared.number.Width.TheVariants.{One, Two, Four, Eight}
+use Rattle.td_image.specs.Imports.{Width, One, Two, Four, Eight, NameId, Param, Cell, CellKind, Number, Pointer, Instr, Parts, Site, Routine, EntryPoint, Fields}
 use Rattle.td_num.specs.Lists.{Each, AreApart}
-use Rattle.td_core.specs.declared.module.NameId.{NameId}
-use Rattle.td_core.specs.declared.module.Param.{Param}
-use Rattle.td_core.specs.declared.module.Cell.{Cell}
-use Rattle.td_core.specs.declared.module.CellKind.{CellKind}
-use Rattle.td_core.specs.declared.module.CellKind.TheVariants.{Number, Pointer}
 use Rattle.td_names.specs.Names.{is_seen, with_name}
-use Rattle.td_ir.specs.declared.instructions.Instr.{Instr}
 use Rattle.td_ir.specs.declared.instructions.Instr.TheVariants as i
-use Rattle.td_ir.specs.declared.tables.Parts.{Parts}
-use Rattle.td_ir.specs.declared.tables.Site.{Site}
-use Rattle.td_ir.specs.declared.tables.Routine.{Routine}
-use Rattle.td_ir.specs.declared.tables.EntryPoint.{EntryPoint}
 use Rattle.td_ir.specs.Tables.{site_of, entry_of, param_of, cell_of, buffer_of}
 use Rattle.td_ir.specs.WellFormed.{IsName, IsField, IsSite, IsRoutine, IsCellNamed, IsEntry, Rises, IsCode}
 use Rattle.td_image.specs.declared.routines.Room.{Room}
 use Rattle.td_image.specs.declared.limits.TheConstants.{MOST_ROWS, MOST_INSTRUCTIONS, MOST_CELLS, MOST_BUFFERS, MOST_ROOM, MOST_MAPPED, MOST_NUMBERS, MOST_PARAMETERS, MOST_REGISTERS, NO_FIELD}
-use Rattle.td_ir.specs.declared.fields.Fields.{Fields}
 use Rattle.td_image.specs.Format.{Format, number, all_fit}
 use Rattle.td_ir.specs.declared.opcodes.OperandField.TheVariants as field
 use Rattle.td_ir.specs.Opcodes.{has}

@@ -1,11 +1,8 @@
 -- What stands behind the front of a header, of the tables and of an instruction: formats of which functions read one each.
 use Rattle.std.specs.Prelude.{ℕ, List}
 use Rattle.std.specs.Int.{w32, w64}
-use Rattle.td_ir.specs.declared.instructions.Instr.{Instr}
+use Rattle.td_image.specs.Imports.{Instr, EntryPoint, Routine, Site}
 use Rattle.td_ir.specs.declared.opcodes.OperandField.TheVariants as field
-use Rattle.td_ir.specs.declared.tables.EntryPoint.{EntryPoint}
-use Rattle.td_ir.specs.declared.tables.Routine.{Routine}
-use Rattle.td_ir.specs.declared.tables.Site.{Site}
 use Rattle.td_ir.specs.Opcodes.{has}
 use Rattle.td_image.specs.declared.counts.Counts.{Counts}
 use Rattle.td_image.specs.declared.version.ImageVersion.{ImageVersion}

@@ -1,10 +1,8 @@
 -- Which code has an image, in one record: tables that fit together have one exactly where they are within this (own rule).
 use Rattle.std.specs.Prelude.{◌≡◌, ℕ, ◌+◌, ◌^◌, ◌<◌, ◌≤◌, true, List, [], ◌∷◌, length}
 use Rattle.td_num.specs.Lists.{Each, AreApart}
-use Rattle.td_ir.specs.declared.tables.Routine.{Routine}
-use Rattle.td_ir.specs.declared.tables.Parts.{Parts}
+use Rattle.td_image.specs.Imports.{Routine, Parts, Fields}
 use Rattle.td_image.specs.declared.limits.TheConstants.{MOST_ROWS, MOST_INSTRUCTIONS, MOST_CELLS, MOST_BUFFERS, MOST_ROOM, MOST_MAPPED, MOST_NUMBERS, MOST_PARAMETERS, MOST_REGISTERS}
-use Rattle.td_ir.specs.declared.fields.Fields.{Fields}
 use Rattle.td_image.specs.Format.{AreBytes}
 use Rattle.td_ir.specs.Fields.{fields_of}
 use Rattle.td_image.specs.declared.version.ImageVersion.TheVariants.{Third}

@@ -2,7 +2,7 @@
 -- code.
 use Rattle.std.proofs.Common.{ℕ, ◌+◌, ◌^◌, ◌<◌, ◌∷◌, Bool, true, false, arith}
 use Rattle.td_num.specs.Lists.{Each}
-use Rattle.td_ir.specs.declared.instructions.Instr.{Instr}
+use Rattle.td_image_fits.specs.Imports.{Instr}
 use Rattle.td_ir.specs.declared.instructions.Instr.TheVariants as i
 use Rattle.td_lower_blocks.specs.Block.{Block, Done, Then, Stop, Leave, Guard, Scope, Window, Loop, size, guard, code}
 use Rattle.td_num.proofs.Lists.{each_append}

@@ -1,12 +1,10 @@
 -- The code of a small checked module is within the format of images.
 use Rattle.std.proofs.Common.{◌≡◌, ℕ, ◌*◌, ◌≤◌, [], ◌∷◌, length, codes, Option, Some, None, slice_get, refl, sym, ap, subst, arith, length-append}
 use Rattle.td_num.specs.Lists.{Each, AreApart}
-use Rattle.td_core.specs.declared.module.TypeDef.{TypeDef}
-use Rattle.td_core.specs.declared.module.Module.{Module}
+use Rattle.td_image_fits.specs.Imports.{TypeDef, Module, Parts}
 use Rattle.td_core.specs.declared.limits.TheConstants.{MOST_DEFINITIONS, MOST_NODES}
 use Rattle.td_core.specs.WellFormed.{EachField}
 use Rattle.td_front.specs.Checked.{IsChecked}
-use Rattle.td_ir.specs.declared.tables.Parts.{Parts}
 use Rattle.td_ir.specs.WellFormed.{IsCode}
 use Rattle.td_verify.specs.Verify.{IsSound}
 use Rattle.td_lower_blocks.specs.Lowered.{definition_block, first_site}

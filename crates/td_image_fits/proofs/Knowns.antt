@@ -6,22 +6,15 @@ use Rattle.td_num.specs.Lists.{Each}
 use Rattle.td_ast.specs.declared.names.ConstTree.{ConstTree}
 use Rattle.td_ast.specs.declared.definitions.ItemTree.{ItemTree}
 use Rattle.td_ast.specs.declared.definitions.EnumTree.{EnumTree}
-use Rattle.td_ast.specs.declared.definitions.CaseTree.{CaseTree}
+use Rattle.td_image_fits.specs.Imports.{CaseTree, Def, ModuleTree, Scalar, TypeDef, Twice, Narrowing, Known, Scope}
 use Rattle.td_ast.specs.declared.definitions.CasetypeTree.{CasetypeTree}
-use Rattle.td_ast.specs.declared.definitions.Def.{Def}
 use Rattle.td_ast.specs.declared.definitions.Def.TheVariants.{Define, Enum, Alias, Struct, Casetype, Output}
-use Rattle.td_ast.specs.declared.definitions.ModuleTree.{ModuleTree}
-use Rattle.td_core.specs.declared.expressions.Scalar.{Scalar}
 use Rattle.td_core.specs.Types.{limit}
 use Rattle.td_core.specs.Formed.{scalar_of}
 use Rattle.td_core.specs.Weights.{total}
 use Rattle.td_core.specs.WellFormed.{EachField}
-use Rattle.td_core.specs.declared.module.TypeDef.{TypeDef}
 use Rattle.td_kinds.specs.Kinds.{body_kind}
 use Rattle.td_limits.specs.Nodes.{definition_nodes}
-use Rattle.td_elab_rules.specs.declared.breach.Rule.TheVariants.{Twice, Narrowing}
-use Rattle.td_elab_rules.specs.declared.known.Known.{Known}
-use Rattle.td_elab_rules.specs.declared.known.Scope.{Scope}
 use Rattle.td_elab_rules.specs.declared.known.Taken.{Taken}
 use Rattle.td_elab_rules.specs.Breach.{when}
 use Rattle.td_elab_rules.specs.Known.{nothing_known, kind_at, no_scope, next_case}

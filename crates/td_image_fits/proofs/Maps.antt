@@ -2,14 +2,7 @@
 use Rattle.std.proofs.Common.{◌≡◌, ℕ, suc, ◌+◌, ◌-◌, ◌/◌, ◌%◌, ◌^◌, ◌<◌, ◌≤◌, Bool, true, false, cond, nat_eq, nat_lt, List, [], ◌∷◌, length, take, drop, Option, Some, None, slice_get, refl, sym, ap, subst, arith, length-append}
 use Rattle.std.proofs.lemmas.List.{length-take, length-drop}
 use Rattle.td_num.specs.Lists.{Each}
-use Rattle.td_core.specs.declared.module.Element.{Element}
-use Rattle.td_core.specs.declared.module.Element.TheVariants.{Number, Listed, Named, Unit as UnitElement, Rest, Zeros}
-use Rattle.td_core.specs.declared.module.Part.{Part}
-use Rattle.td_core.specs.declared.module.Field.{Field}
-use Rattle.td_core.specs.declared.module.Case.{Case}
-use Rattle.td_core.specs.declared.module.Body.{Body}
-use Rattle.td_core.specs.declared.module.Body.TheVariants.{Struct, Casetype}
-use Rattle.td_core.specs.declared.module.TypeDef.{TypeDef}
+use Rattle.td_image_fits.specs.Imports.{Element, Number, Listed, Named, Unit as UnitElement, Rest, Zeros, Part, Field, Case, Body, Struct, Casetype, TypeDef}
 use Rattle.td_core.specs.Formed.{Bound, own_bounds, param_bounds, parts_scope, own_at, AreCellsFormed, IsElementFormed, AreFieldsFormed, AreCasesFormed, IsDefaultFormed, IsBodyFormed, IsDefinitionFormed}
 use Rattle.td_core.specs.Copies.{AreOwnGiven, IsElementGiven, IsFieldCopying, IsDefinitionCopying}
 use Rattle.td_core.specs.WellFormed.{OfSome, EachField, DefinitionWithin}

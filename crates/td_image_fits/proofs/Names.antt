@@ -1,14 +1,10 @@
 -- The names of a module are no more than the nodes of its text, and no longer than the text.
 use Rattle.std.proofs.Common.{◌≡◌, ℕ, ◌+◌, ◌^◌, ◌<◌, ◌≤◌, map, Bool, true, false, if◌then◌else◌, List, [], ◌∷◌, ◌++◌, length, Option, Some, None, arith, length-append}
 use Rattle.td_num.specs.Lists.{Each}
-use Rattle.td_ast.specs.declared.token.Token.{Token}
-use Rattle.td_ast.specs.declared.fields.FieldTree.{FieldTree}
+use Rattle.td_image_fits.specs.Imports.{Token, FieldTree, CaseTree, Def, ModuleTree, Module}
 use Rattle.td_ast.specs.declared.parameters.ParamTree.{ParamTree}
 use Rattle.td_ast.specs.declared.definitions.SlotTree.{SlotTree}
-use Rattle.td_ast.specs.declared.definitions.CaseTree.{CaseTree}
-use Rattle.td_ast.specs.declared.definitions.Def.{Def}
 use Rattle.td_ast.specs.declared.definitions.Def.TheVariants.{Define, Enum, Alias, Struct, Casetype, Output}
-use Rattle.td_ast.specs.declared.definitions.ModuleTree.{ModuleTree}
 use Rattle.td_lexer.specs.Splits.{Splits}
 use Rattle.td_grammar.specs.Parts.{input_text}
 use Rattle.td_grammar.specs.Laws.{EitherForm}
@@ -21,7 +17,6 @@ use Rattle.td_limits.specs.declared.limits.Limit.TheVariants as limit
 use Rattle.td_limits.specs.Excesses.{above, first_excess, definition_name}
 use Rattle.td_limits.specs.Nodes.{inner_nodes, fields_nodes, default_nodes, cases_nodes, definition_nodes}
 use Rattle.td_limits.specs.Counts.{most_fields, count_cases, count_params, definition_counts, count_excesses, counts_passed}
-use Rattle.td_core.specs.declared.module.Module.{Module}
 use Rattle.td_names.specs.Names.{is_seen, with_name}
 use Rattle.td_elab_rules.specs.Records.{with_slots}
 use Rattle.td_elab_rules.specs.Modules.{StandsFor, param_name, see_params, see_fields, see_cases, see_default, see_definition, all_names, names_of}

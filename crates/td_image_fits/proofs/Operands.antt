@@ -2,9 +2,8 @@
 use Rattle.std.proofs.Common.{◌≡◌, inl, inr, ℕ, zero, suc, ◌^◌, ◌<◌, ◌≤◌, Bool, true, false, List, length, nat_lt, refl, arith, slice_index_or}
 use Rattle.std.proofs.lemmas.Bool.{ltb-true, ltb-false}
 use Rattle.td_num.specs.Lists.{Each}
-use Rattle.td_ir.specs.declared.instructions.Instr.{Instr}
+use Rattle.td_image_fits.specs.Imports.{Instr, Parts}
 use Rattle.td_ir.specs.declared.instructions.Instr.TheVariants as i
-use Rattle.td_ir.specs.declared.tables.Parts.{Parts}
 use Rattle.td_ir.specs.Tables.{routine_of, instruction_of, lengths_of, begin, no_routine}
 use Rattle.td_ir.specs.WellFormed.{IsCode}
 use Rattle.td_verify.specs.Operands.{HasRegisters, HasTables, HasOperands, IsWidth, callee_params}

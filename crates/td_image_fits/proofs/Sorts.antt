@@ -2,13 +2,10 @@
 use Rattle.std.proofs.Common.{◌≡◌, ℕ, true, false, not, ◌&&◌, [], refl, Option, Some, None, is_none}
 use Rattle.td_ast.specs.declared.expressions.UnaryOperator.{UnaryOperator}
 use Rattle.td_ast.specs.declared.expressions.UnaryOperator.TheVariants.{Not, Complement}
-use Rattle.td_ast.specs.declared.token.Span.{Span}
+use Rattle.td_image_fits.specs.Imports.{Span, Scalar, Binary, Mismatch, BadAction, Known, Scope}
 use Rattle.td_ast.specs.Trees.{Tree, span_of}
 use Rattle.td_ast.specs.Trees as tree
-use Rattle.td_core.specs.declared.expressions.Scalar.{Scalar}
-use Rattle.td_core.specs.declared.expressions.Binary.{Binary}
 use Rattle.td_core.specs.Types.{computed_type}
-use Rattle.td_elab_rules.specs.declared.breach.Rule.TheVariants.{Mismatch, BadAction}
 use Rattle.td_elab_rules.specs.declared.expressions.Sort.{Sort}
 use Rattle.td_elab_rules.specs.declared.expressions.Sort.TheVariants as sort
 use Rattle.td_elab_rules.specs.declared.expressions.Operation.{Operation}
@@ -17,8 +14,6 @@ use Rattle.td_elab_rules.specs.declared.known.Meaning.TheVariants as meaning
 use Rattle.td_elab_rules.specs.declared.known.Local.TheVariants as local
 use Rattle.td_elab_rules.specs.declared.known.Found.{Found}
 use Rattle.td_elab_rules.specs.declared.known.Found.TheVariants as found
-use Rattle.td_elab_rules.specs.declared.known.Known.{Known}
-use Rattle.td_elab_rules.specs.declared.known.Scope.{Scope}
 use Rattle.td_elab_rules.specs.Known.{found_in}
 use Rattle.td_elab_rules.specs.Sorts.{operation, narrowest, type_alone, literal_type, type_beside, typed_by, computed_sort, operation_sort, typed, unary_sort, choice_sort, size_found, size_named, size_sort, found_sort, start_sort, sort_of}
 use Rattle.td_elab_rules.specs.ExprRules.{is_truth, is_number, name_breaches, is_nothing, is_type, is_wrong_operand, are_wrong_operands, is_wrong_choice, expr_breaches, number_breaches}

@@ -7,24 +7,14 @@ use Rattle.td_num.specs.declared.number.Width.TheVariants.{One, Two, Four, Eight
 use Rattle.td_num.specs.Lists.{Each}
 use Rattle.td_ast.specs.declared.fields.ExtentTree.{ExtentTree}
 use Rattle.td_ast.specs.declared.fields.ExtentTree.TheVariants as after_name
-use Rattle.td_ast.specs.declared.fields.FieldTree.{FieldTree}
-use Rattle.td_ast.specs.declared.definitions.CaseTree.{CaseTree}
+use Rattle.td_image_fits.specs.Imports.{FieldTree, CaseTree, Element, Extent, Once, Filling, OnceFilling, UpToZero, Field, Case, Body, Struct, Casetype, Known, Scope}
 use Rattle.td_core.specs.declared.kind.Kind.{Kind}
 use Rattle.td_core.specs.Term.{Term}
 use Rattle.td_core.specs.WellFormed.{OfSome}
-use Rattle.td_core.specs.declared.module.Element.{Element}
 use Rattle.td_core.specs.declared.module.Element.TheVariants as element
-use Rattle.td_core.specs.declared.module.Extent.{Extent}
-use Rattle.td_core.specs.declared.module.Extent.TheVariants.{Once, Filling, OnceFilling, UpToZero}
-use Rattle.td_core.specs.declared.module.Field.{Field}
-use Rattle.td_core.specs.declared.module.Case.{Case}
-use Rattle.td_core.specs.declared.module.Body.{Body}
-use Rattle.td_core.specs.declared.module.Body.TheVariants.{Struct, Casetype}
 use Rattle.td_expr.specs.Same.{constant_of}
 use Rattle.td_kinds.specs.declared.sizes.TheConstants.{SIZE_CAP}
 use Rattle.td_kinds.specs.Kinds.{up_to, on_both, element_kind, sized_kind, field_kind, fields_kind, default_kind, spanned_with, cases_kind, body_kind, same_size, kind_at}
-use Rattle.td_elab_rules.specs.declared.known.Known.{Known}
-use Rattle.td_elab_rules.specs.declared.known.Scope.{Scope}
 use Rattle.td_elab_rules.specs.Known as known
 use Rattle.td_elab_rules.specs.Sorts.{core_of}
 use Rattle.td_elab_rules.specs.Types.{element_of}

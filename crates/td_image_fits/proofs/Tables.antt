@@ -4,7 +4,7 @@ use Rattle.std.proofs.lemmas.List.{length-map}
 use Rattle.td_num.specs.Lists.{Each}
 use Rattle.td_core.specs.declared.limits.TheConstants.{MOST_NODES, MOST_ROOM}
 use Rattle.td_core.specs.declared.module.Buffer.{Buffer}
-use Rattle.td_core.specs.declared.module.TypeDef.{TypeDef}
+use Rattle.td_image_fits.specs.Imports.{TypeDef}
 use Rattle.td_core.specs.Formed.{IsDefinitionFormed}
 use Rattle.td_core.specs.Weights.{head_nodes, body_nodes, definitions_nodes}
 use Rattle.td_core.specs.Copies.{IsDefinitionCopying}

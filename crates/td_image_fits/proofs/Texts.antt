@@ -1,7 +1,7 @@
 -- The module of a text is small.
 use Rattle.std.proofs.Common.{◌≡◌, ℕ, List, ◌^◌, ◌<◌, ◌≤◌, [], length, refl, sym, subst, arith}
 use Rattle.td_num.specs.Lists.{Each}
-use Rattle.td_ast.specs.declared.definitions.ModuleTree.{ModuleTree}
+use Rattle.td_image_fits.specs.Imports.{ModuleTree}
 use Rattle.td_elab_rules.specs.Modules.{breaches, module_of}
 use Rattle.td_elab_rules.specs.Laws.{NamesAreWritten}
 use Rattle.td_grammar.specs.Laws.{EitherForm}

@@ -1,6 +1,6 @@
 -- A name that a token has is no longer than the token.
 use Rattle.std.proofs.Common.{ℕ, ◌≤◌, List, length, refl}
-use Rattle.td_ast.specs.declared.token.TokenKind.{TokenKind}
+use Rattle.td_image_fits.specs.Imports.{TokenKind}
 use Rattle.td_lexer.specs.Spellings.{marked_words}
 use Rattle.td_lexer.specs.Splits.{Begins}
 use Rattle.td_lexer.specs.Splits.Begins.{keyword_begins, name_begins, number_begins, marked_begins, punctuation_begins}

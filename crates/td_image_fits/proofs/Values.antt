@@ -2,10 +2,9 @@
 -- nodes.
 use Rattle.std.proofs.Common.{ℕ, suc, ◌+◌, ◌-◌, ◌*◌, ◌^◌, ◌<◌, ◌≤◌, List, [], ◌∷◌, true, false, arith, slice_get}
 use Rattle.td_num.specs.Lists.{Each}
-use Rattle.td_core.specs.declared.expressions.Scalar.{Scalar}
+use Rattle.td_image_fits.specs.Imports.{Scalar, Binary as Operator}
 use Rattle.td_core.specs.declared.expressions.Scalar.TheVariants.{Truth, Eight, Sixteen, ThirtyTwo, SixtyFour}
-use Rattle.td_core.specs.declared.expressions.Binary.{Binary as Operator}
-use Rattle.td_core.specs.declared.expressions.Binary.TheVariants.{Plus, Minus, Times, Over, Modulo, BitAnd, BitOr, BitXor, ShiftLeft as ShiftLeftOp, ShiftRight}
+use Rattle.td_core.specs.declared.expressions.Binary.TheVariants.{Add, Subtract, Multiply, Divide, Remainder, BitAnd, BitOr, BitXor, ShiftLeft as ShiftLeftOp, ShiftRight}
 use Rattle.td_core.specs.declared.expressions.Relation.{Relation}
 use Rattle.td_core.specs.declared.expressions.Relation.TheVariants.{Equal, NotEqual, Less, LessEqual, Greater, GreaterEqual}
 use Rattle.td_core.specs.Term.{Term, number, name, complement, negation, compute, compare, both, either, choice, range_okay, Deed, done, set, keep, fork, answer, give_up}
@@ -41,11 +40,11 @@ mask_roomy ThirtyTwo = omega arith
 mask_roomy SixtyFour = omega arith
 
 computed_roomy : (op : Operator) (mask : ℕ) (a b : Expr) → mask < 2 ^ 64 → IsRoomyExpr a → IsRoomyExpr b → IsRoomyExpr (computed_of op mask a b)
-computed_roomy Plus mask a b k h g = (h, g)
-computed_roomy Minus mask a b k h g = (h, g)
-computed_roomy Times mask a b k h g = (h, g)
-computed_roomy Over mask a b k h g = (h, g)
-computed_roomy Modulo mask a b k h g = (h, g)
+computed_roomy Add mask a b k h g = (h, g)
+computed_roomy Subtract mask a b k h g = (h, g)
+computed_roomy Multiply mask a b k h g = (h, g)
+computed_roomy Divide mask a b k h g = (h, g)
+computed_roomy Remainder mask a b k h g = (h, g)
 computed_roomy BitAnd mask a b k h g = (h, g)
 computed_roomy BitOr mask a b k h g = (h, g)
 computed_roomy BitXor mask a b k h g = (h, g)

@@ -1,9 +1,8 @@
 -- The code of each module text is within the format of images.
 use Rattle.std.specs.Prelude.{ℕ, ◌^◌, ◌<◌, List, length}
-use Rattle.td_core.specs.declared.module.Module.{Module}
+use Rattle.td_image_fits.specs.Imports.{Module, Parts}
 use Rattle.td_front.specs.Checked.{IsChecked}
 use Rattle.td_front.specs.ModuleText.{IsModuleText}
-use Rattle.td_ir.specs.declared.tables.Parts.{Parts}
 use Rattle.td_ir.specs.WellFormed.{IsCode}
 use Rattle.td_verify.specs.Verify.{IsSound}
 use Rattle.td_lower.specs.Code.{IsWritten}

@@ -1,2 +1,3 @@
+pub mod Imports
 pub mod Small
 pub mod Laws

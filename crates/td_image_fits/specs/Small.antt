@@ -2,12 +2,7 @@
 -- each checked module.
 use Rattle.std.specs.Prelude.{ℕ, ◌^◌, ◌<◌, ◌≤◌, length}
 use Rattle.td_num.specs.Lists.{Each}
-use Rattle.td_core.specs.declared.module.Extent.{Extent}
-use Rattle.td_core.specs.declared.module.Extent.TheVariants.{Once, Filling, OnceFilling, UpToZero}
-use Rattle.td_core.specs.declared.module.Field.{Field}
-use Rattle.td_core.specs.declared.module.Body.{Body}
-use Rattle.td_core.specs.declared.module.Body.TheVariants.{Struct, Casetype}
-use Rattle.td_core.specs.declared.module.Module.{Module}
+use Rattle.td_image_fits.specs.Imports.{Extent, Once, Filling, OnceFilling, UpToZero, Field, Body, Struct, Casetype, Module}
 use Rattle.td_core.specs.declared.limits.TheConstants.{MOST_DEFINITIONS, MOST_NODES}
 use Rattle.td_core.specs.Weights.{total}
 use Rattle.td_core.specs.WellFormed.{OfSome, EachField}

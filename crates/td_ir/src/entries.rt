@@ -30,6 +30,20 @@ fn is_entry_named(code: &Code, name: &[u8], number: u32) -> bool
 
 /// The first entry point whose routine has this name. Takes no memory. None: no entry point has it. (Entry points are
 /// numbered by a `u32`; a table of more of them than that is looked through as far as the numbers go.)
+///
+/// The entry point `UDP` of code, or its first one where none has this name:
+///
+/// ```
+/// use td_core::Entry;
+/// use td_ir::{Code, entry_in};
+///
+/// fn udp_or_first(code: &Code) -> Entry {
+///     match entry_in(code, b"UDP") {
+///         Some(entry) => entry,
+///         None => Entry { number: 0 },
+///     }
+/// }
+/// ```
 pub fn entry_in(code: &Code, name: &[u8]) -> Option<Entry>
     ensures { MatchOption result ((n : ℕ) → n < 2 ^ 32 → IsEntryNamed code.now name.now n → ⊥)
         (λ entry. IsFirstNamed code.now name.now entry) }
@@ -107,6 +121,17 @@ fn fit_entry(parts: &Parts, entry: Entry, args: &[u64], cells: &[u64]) -> bool
 
 /// Whether arguments and cells fit an entry point: the code has it, they are as many as it has parameters and cells, and
 /// each is within its width (a pointer below 2^32). Takes no memory.
+///
+/// Whether an entry point takes this length and four cells, as that of formats/udp does:
+///
+/// ```
+/// use td_core::Entry;
+/// use td_ir::{Code, fits};
+///
+/// fn is_as_udp(code: &Code, entry: Entry, length: u32) -> bool {
+///     fits(code, entry, &[u64::from(length)], &[0, 0, 0, 0])
+/// }
+/// ```
 pub fn fits(code: &Code, entry: Entry, args: &[u64], cells: &[u64]) -> bool
     ensures { IsTrue result ↔ Fits code.now entry args.now cells.now }
 {

@@ -25,7 +25,7 @@ pub enum Operand {
     /// The register of the most bytes up to a zero element.
     Bound,
 
-    // Numbers.
+    // Numbers that stand in the instruction itself, and in no register.
     /// The number of an operator ([`crate::constants`]).
     Operator,
     /// The bit of least weight that is taken.

@@ -16,9 +16,7 @@ use Rattle.hex.specs.declared.error.FromHexError.TheVariants.{OddLength}
 use Rattle.hex.proofs.HexLemmas.{decode_pairs-ok}
 use Rattle.td_num.specs.Lists.{AreBytes}
 use Rattle.td_num.proofs.Digits.{are_bytes}
-use Rattle.td_core.specs.declared.module.Module.{Module}
-use Rattle.td_core.specs.declared.module.Entry.{Entry}
-use Rattle.td_core.specs.declared.module.TypeDef.{TypeDef}
+use Rattle.td_job.specs.Imports.{Module, Entry, TypeDef}
 use Rattle.td_core.specs.Entries.{IsEntryNamed, HasName, entry_definition}
 use Rattle.td_write_values.specs.Datum.{data_of}
 use Rattle.td_write_values.specs.Spelling.{spelling}

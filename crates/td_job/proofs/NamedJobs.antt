@@ -4,11 +4,9 @@ use Rattle.std.specs.List.{All}
 use Rattle.std.proofs.lemmas.Bool.Decides.{nat_tests}
 use Rattle.std.proofs.lemmas.List.{at_drop_more}
 use Rattle.std.proofs.lemmas.List.Elements.{All-nil, All-cons}
-use Rattle.td_core.specs.declared.module.Module.{Module}
-use Rattle.td_core.specs.declared.module.Entry.{Entry}
+use Rattle.td_job.specs.Imports.{Module, Entry, PlannedStore}
 use Rattle.td_core.specs.Entries.{entry_definition}
 use Rattle.td_core.specs.Formed.{Bound, AllFit, params_at, cells_at}
-use Rattle.td_sched.specs.declared.store.PlannedStore.{PlannedStore}
 use Rattle.td_job.specs.declared.error.Key.{Key}
 use Rattle.td_job.specs.declared.error.Key.TheVariants as key
 use Rattle.td_job.specs.declared.error.JobRule.TheVariants as rule

@@ -9,10 +9,8 @@ use Rattle.serde_json.specs.Events.{items_len}
 use Rattle.serde_json.specs.Find.{as_array}
 use Rattle.serde_json.specs.View.{view, items_view}
 use Rattle.serde_json.specs.declared.value.Value.{Value}
-use Rattle.td_core.specs.declared.module.Module.{Module}
-use Rattle.td_sched.specs.declared.store.PlannedStore.{PlannedStore}
+use Rattle.td_job.specs.Imports.{Module, PlannedStore, Stretch}
 use Rattle.td_stream.specs.declared.layout.TheConstants.{MOST_STRETCHES}
-use Rattle.td_stream.specs.declared.stretch.Stretch.{Stretch}
 use Rattle.td_stream.specs.Layouts.{length_in, count_in, layout_or_plain, loadable, AreWithin, IsOver}
 use Rattle.td_stream.proofs.Plain.{plain_is}
 use Rattle.td_job.specs.declared.checks.TheConstants.{MOST_BYTES}

@@ -4,12 +4,8 @@ use Rattle.std.proofs.lemmas.Bool.{cases_order}
 use Rattle.std.proofs.lemmas.Option.{same_Some}
 use Rattle.std.specs.Prelude.{IfOk, IfErr, MatchResult}
 use Rattle.serde_json.specs.Data.{Data}
-use Rattle.td_core.specs.declared.module.Module.{Module}
-use Rattle.td_core.specs.declared.module.Entry.{Entry}
-use Rattle.td_core.specs.declared.module.TypeDef.{TypeDef}
+use Rattle.td_job.specs.Imports.{Module, Entry, TypeDef, PlannedStore, Stretch}
 use Rattle.td_core.specs.Entries.{IsFirstNamed, entry_definition}
-use Rattle.td_sched.specs.declared.store.PlannedStore.{PlannedStore}
-use Rattle.td_stream.specs.declared.stretch.Stretch.{Stretch}
 use Rattle.td_job.specs.declared.error.Key.TheVariants as key
 use Rattle.td_job.specs.declared.error.JobError.{JobError}
 use Rattle.td_job.specs.declared.error.JobError.TheVariants.{NoMemory}

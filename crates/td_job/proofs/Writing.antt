@@ -4,14 +4,12 @@ use Rattle.std.proofs.lemmas.Option.{same_Some}
 use Rattle.std.specs.Prelude.{IfOk, IfErr}
 use Rattle.serde_json.specs.Data.{Data}
 use Rattle.serde_json.specs.Find.{as_object}
-use Rattle.td_core.specs.declared.module.Module.{Module}
-use Rattle.td_core.specs.declared.module.Entry.{Entry}
+use Rattle.td_job.specs.Imports.{Module, Entry, WriteRule, PlannedStore}
 use Rattle.td_core.specs.declared.outcome.Outcome.{Outcome}
 use Rattle.td_core.specs.Entries.{entry_definition}
 use Rattle.td_core.specs.Formed.{params_at, cells_at}
 use Rattle.td_meaning.specs.Meaning.{meaning}
 use Rattle.td_meaning.specs.Copies.{opened}
-use Rattle.td_write_values.specs.declared.error.WriteRule.{WriteRule}
 use Rattle.td_write_values.specs.declared.limits.TheConstants.{MOST_WRITTEN}
 use Rattle.td_write_values.specs.Datum.{Datum}
 use Rattle.td_write_values.specs.Spelling.{spelling}
@@ -23,7 +21,6 @@ use Rattle.td_job.specs.declared.error.JobError.{JobError}
 use Rattle.td_job.specs.declared.error.JobError.TheVariants.{NoMemory}
 use Rattle.td_job.specs.declared.error.Key.TheVariants as key
 use Rattle.td_job.specs.declared.error.Path.TheVariants as path
-use Rattle.td_sched.specs.declared.store.PlannedStore.{PlannedStore}
 use Rattle.td_job.specs.declared.run_job.RunJob.{RunJob}
 use Rattle.td_job.specs.Fields.{field_of, IsFirst}
 use Rattle.td_job.specs.Stretches.{words_with}

@@ -1,7 +1,7 @@
 -- The codes and the paths of error lines (own rule).
 use Rattle.std.specs.Prelude.{ℕ, List, [], ◌++◌, Some, flat_map, codes}
 use Rattle.td_core.specs.Paths.{indexed}
-use Rattle.td_write_values.specs.declared.error.WriteRule.{WriteRule}
+use Rattle.td_job.specs.Imports.{WriteRule}
 use Rattle.td_write_values.specs.declared.error.WriteRule.TheVariants as write
 use Rattle.td_job.specs.declared.error.Key.{Key}
 use Rattle.td_job.specs.declared.error.Key.TheVariants as key

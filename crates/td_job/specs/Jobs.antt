@@ -14,18 +14,14 @@ use Rattle.serde_json.specs.Events.{items_len}
 use Rattle.serde_json.specs.Find.{as_str, as_array, as_object}
 use Rattle.hex.specs.Hex.{decode_of, decode_sized}
 use Rattle.hex.specs.declared.error.FromHexError.{FromHexError}
-use Rattle.td_core.specs.declared.module.Module.{Module}
-use Rattle.td_core.specs.declared.module.Entry.{Entry}
-use Rattle.td_core.specs.declared.module.TypeDef.{TypeDef}
+use Rattle.td_job.specs.Imports.{Module, Entry, TypeDef, Stretch, PlannedStore}
 use Rattle.td_core.specs.Entries.{IsEntryNamed, IsFirstNamed, entry_definition}
 use Rattle.td_core.specs.Formed.{AllFit, params_at, cells_at}
 use Rattle.td_num.specs.Numbers.{rising_at}
-use Rattle.td_stream.specs.declared.stretch.Stretch.{Stretch}
 use Rattle.td_stream.specs.Layouts.{length_in, count_in, layout_or_plain, loadable, IsOver}
 use Rattle.td_write_values.specs.Spelling.{spelling}
 use Rattle.td_meaning.specs.Copies.{opened}
 use Rattle.td_write_values.specs.Writing.{writing, whole as whole_numbers}
-use Rattle.td_sched.specs.declared.store.PlannedStore.{PlannedStore}
 use Rattle.td_job.specs.declared.error.Key.{Key}
 use Rattle.td_job.specs.declared.error.Key.TheVariants as key
 use Rattle.td_job.specs.declared.error.JobRule.TheVariants as rule

@@ -1,10 +1,9 @@
 -- What holds of jobs and their faults.
 use Rattle.std.specs.Prelude.{◌≡◌, ℕ, List, None, ◌⊎◌}
-use Rattle.td_core.specs.declared.module.Module.{Module}
+use Rattle.td_job.specs.Imports.{Module, Entry}
 use Rattle.td_job.specs.declared.error.JobError.{JobError}
 use Rattle.td_job.specs.declared.run_job.RunJob.{RunJob}
 use Rattle.serde_json.specs.Data.{Data}
-use Rattle.td_core.specs.declared.module.Entry.{Entry}
 use Rattle.td_job.specs.declared.error.Key.TheVariants as key
 use Rattle.td_job.specs.Fields.{field_of}
 use Rattle.td_job.specs.Jobs.{IsRunJob, RefusedJob, from_bytes, given}

@@ -1,3 +1,4 @@
+pub mod Imports
 pub mod Errors
 pub mod Fields
 pub mod Jobs

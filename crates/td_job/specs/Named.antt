@@ -1,11 +1,9 @@
 -- Jobs that name their entry point by text, and what is wrong with one (own rule): what is wrong with the run job that a JSON
 -- text of the same entry, arguments, cells, words, length and stores, without stretches or a value, stands for, in the same order, by the same codes.
 use Rattle.std.specs.Prelude.{◌≡◌, ℕ, ◌+◌, List, [], ◌∷◌, ◌++◌, length, not, nat_eq, nat_lt, nat_le, Some, None, ◌⊎◌}
-use Rattle.td_core.specs.declared.module.Module.{Module}
-use Rattle.td_core.specs.declared.module.Entry.{Entry}
+use Rattle.td_job.specs.Imports.{Module, Entry, PlannedStore}
 use Rattle.td_core.specs.Entries.{entry_definition}
 use Rattle.td_core.specs.Formed.{Bound, params_at, cells_at}
-use Rattle.td_sched.specs.declared.store.PlannedStore.{PlannedStore}
 use Rattle.td_job.specs.declared.error.Key.{Key}
 use Rattle.td_job.specs.declared.error.Key.TheVariants as key
 use Rattle.td_job.specs.declared.error.JobRule.TheVariants as rule

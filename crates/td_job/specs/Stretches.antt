@@ -9,7 +9,7 @@ use Rattle.serde_json.specs.Data.{Data, Items, no_items, item}
 use Rattle.serde_json.specs.Events.{items_len}
 use Rattle.serde_json.specs.Find.{as_array}
 use Rattle.td_stream.specs.declared.layout.TheConstants.{MOST_STRETCHES}
-use Rattle.td_stream.specs.declared.stretch.Stretch.{Stretch}
+use Rattle.td_job.specs.Imports.{Stretch}
 use Rattle.td_stream.specs.Layouts.{length_in}
 use Rattle.td_job.specs.declared.error.Key.TheVariants as key
 use Rattle.td_job.specs.declared.error.JobRule.TheVariants as rule

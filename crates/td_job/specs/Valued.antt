@@ -1,8 +1,7 @@
 -- A job up to its value, which is written; of use below the reader of jobs alone.
 use Rattle.std.specs.Prelude.{◌≡◌, ◌≤◌, ℕ, List, [], length, Some}
 use Rattle.serde_json.specs.Data.{Data}
-use Rattle.td_core.specs.declared.module.Module.{Module}
-use Rattle.td_core.specs.declared.module.Entry.{Entry}
+use Rattle.td_job.specs.Imports.{Module, Entry}
 use Rattle.td_core.specs.Entries.{entry_definition}
 use Rattle.td_write_values.specs.declared.limits.TheConstants.{MOST_WRITTEN}
 use Rattle.td_write_values.specs.Datum.{Datum}

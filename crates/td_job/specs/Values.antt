@@ -8,7 +8,7 @@ use Rattle.std.specs.Prelude.{ℕ, ◌+◌, List, [], ◌∷◌, ◌++◌, lengt
 use Rattle.serde_json.specs.Data.{Data, Items, no_items, item}
 use Rattle.serde_json.specs.Events.{items_len}
 use Rattle.serde_json.specs.Find.{as_array}
-use Rattle.td_core.specs.declared.module.TypeDef.{TypeDef}
+use Rattle.td_job.specs.Imports.{TypeDef}
 use Rattle.td_core.specs.Formed.{Bound, params_at, cells_at}
 use Rattle.td_job.specs.declared.error.Key.{Key}
 use Rattle.td_job.specs.declared.error.Key.TheVariants as key

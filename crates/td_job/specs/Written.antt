@@ -6,7 +6,7 @@ use Rattle.serde_json.specs.Data.{Data, null, boolean, number, string, array, ob
 use Rattle.serde_json.specs.Find.{as_u64}
 use Rattle.hex.specs.Hex.{decode_of}
 use Rattle.hex.specs.declared.error.FromHexError.{FromHexError}
-use Rattle.td_write_values.specs.declared.error.WriteRule.{WriteRule}
+use Rattle.td_job.specs.Imports.{WriteRule}
 use Rattle.td_write_values.specs.declared.error.WriteRule.TheVariants.{Shape, Range, Broken, Size, Long}
 use Rattle.td_write_values.specs.Datum.{Datum, Number, Sequence, Bytes, Empty, data_of}
 use Rattle.td_write_values.specs.Writing.{Written, Done, Refused}

@@ -19,7 +19,7 @@ use td_core::module::{Entry, Module};
 use td_num::text::Text;
 
 /// The most bytes that a message has.
-pub const MOST_BYTES: u64 = 1_048_576;
+pub const MOST_BYTES: u64 = td_core::limits::MOST_MESSAGE;
 
 /// The entry point that a job names. J2: `entry` is missing or no text. J3: no entry point has the name. Takes no memory.
 pub fn entry_of(job: &Value, m: &Module) -> Result<Entry, JobError>

@@ -2,8 +2,7 @@
 
 ghost use Rattle.std.specs.Prelude.{◌≡◌, ◌≢◌, ◌+◌, ◌/◌, ◌<◌, [], ◌⊎◌, length, IfOk, IfErr, OnOk, Some};
 ghost use Rattle.std.specs.List.{All};
-ghost use Rattle.td_core.specs.declared.module.Entry.{Entry};
-ghost use Rattle.td_core.specs.declared.module.Module.{Module};
+ghost use Rattle.td_job.specs.Imports.{Entry, Module};
 ghost use Rattle.td_job.specs.Fields.{IsFirst};
 ghost use Rattle.td_job.specs.Jobs.{EntryFault, HasRoom, HasValues, IsEntry};
 ghost use Rattle.td_job.specs.Named.{FirstNamedFault, IsNamedJob, each_number_faults, limit_faults, named_faults, number_faults, each_word_faults, word_faults};

@@ -17,7 +17,7 @@ use td_num::number::Width;
 use td_sched::store::PlannedStore;
 
 /// The most stores that a job has.
-pub const MOST_STORES: usize = 65_536;
+pub const MOST_STORES: usize = td_core::limits::MOST_STORES;
 
 /// The three parts of a store, as a job spells them.
 #[derive(Clone, Copy)]

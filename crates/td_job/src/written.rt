@@ -46,7 +46,7 @@ impl Form {
 
 /// The form of a value. Takes no memory.
 #[cycle(forms)]
-pub fn form_of(value: &Json) -> Form
+pub(crate) fn form_of(value: &Json) -> Form
     ensures { result ≡ form_of (view value.now) }
 {
     if let Some(values) = value.as_array() {

@@ -5,8 +5,7 @@ use Rattle.std.proofs.lemmas.Slice.Eq.{bytes_eq-Decides}
 use Rattle.std.specs.Prelude.{bytes_eq}
 use Rattle.td_num.specs.declared.number.Width.{Width}
 use Rattle.td_num.specs.declared.number.Width.TheVariants.{One, Two, Four, Eight}
-use Rattle.td_core.specs.declared.module.CellKind.{CellKind}
-use Rattle.td_core.specs.declared.module.CellKind.TheVariants.{Number, Pointer}
+use Rattle.td_job_host.specs.Imports.{CellKind, Number, Pointer}
 use Rattle.td_job_host.specs.Swaps.{Named, NamedRoom}
 
 abbrev pub Decided : Type 0 → Type 0

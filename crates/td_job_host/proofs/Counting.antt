@@ -7,8 +7,7 @@ use Rattle.std.specs.Prelude.{min}
 use Rattle.serde_json.specs.View.{view, items_view}
 use Rattle.serde_json.specs.declared.value.Value.{Value}
 use Rattle.td_job.specs.Jobs.{spelled_word}
-use Rattle.td_posts.specs.declared.job.Step.{Step}
-use Rattle.td_posts.specs.declared.job.Step.TheVariants.{Store}
+use Rattle.td_job_host.specs.Imports.{Step, Store}
 use Rattle.td_job_host.specs.declared.totals.Total.{Total}
 use Rattle.td_job_host.specs.Steps.{spelled_step, store_with, store_in, step_in, each_step}
 use Rattle.td_job_host.specs.Guests.{given_script, each_script}

@@ -10,7 +10,7 @@ use Rattle.serde_json.specs.declared.value.Value.{Value}
 use Rattle.td_job.specs.declared.error.Key.TheVariants as key
 use Rattle.td_job.specs.declared.error.Path.TheVariants as path
 use Rattle.td_job.specs.declared.error.JobRule.TheVariants as rule
-use Rattle.td_job.specs.declared.error.JobError.TheVariants.{Fault}
+use Rattle.td_job_host.specs.Imports.{Fault}
 use Rattle.td_job.specs.Fields.{IsFirst, fault_if}
 use Rattle.td_job.proofs.Elements.{same_count, limited, unlimited}
 use Rattle.td_posts.specs.declared.limits.TheConstants.{MOST_GUESTS, MOST_RINGS, MOST_SWAPS}

@@ -2,13 +2,11 @@
 use Rattle.std.proofs.Common.{length, ◌≡◌, ℕ, zero, suc, List, [], ◌∷◌, map, Option, Some, None, Result, Ok, Err, ◌⊎◌, inl, inr, refl, sym, ap, ◌∙◌, subst}
 use Rattle.std.specs.Prelude.{IfOk}
 use Rattle.serde_json.specs.Data.{Data}
-use Rattle.td_core.specs.declared.module.Module.{Module}
-use Rattle.td_core.specs.declared.module.Entry.{Entry}
+use Rattle.td_job_host.specs.Imports.{Module, Entry, JobError, HostJob, Step, RingJob}
 use Rattle.td_core.specs.Entries.{entry_definition}
 use Rattle.td_core.specs.Formed.{cells_at}
 use Rattle.td_front.specs.Laws.{AlwaysOne}
 use Rattle.td_job.specs.declared.error.Key.TheVariants as key
-use Rattle.td_job.specs.declared.error.JobError.{JobError}
 use Rattle.td_job.specs.Fields.{Reads, text_of, IsFirst}
 use Rattle.td_job.specs.Values.{given_args}
 use Rattle.td_job.specs.Jobs.{EntryFault, IsEntry}
@@ -17,9 +15,6 @@ use Rattle.td_job.proofs.Existing.{made_or_refused, spelled_small, entry_or_faul
 use Rattle.td_job.proofs.Numbers.{both_empty}
 use Rattle.td_job.proofs.Unique.{one_entry, one_entry_fault, one_first, one_value}
 use Rattle.td_job.proofs.Unique.{entry_or_fault as never_both_entry}
-use Rattle.td_posts.specs.declared.job.HostJob.{HostJob}
-use Rattle.td_posts.specs.declared.job.Step.{Step}
-use Rattle.td_posts.specs.declared.ring.RingJob.{RingJob}
 use Rattle.td_job_host.specs.Guests.{workers_faults, given_guests}
 use Rattle.td_job_host.specs.Rings.{given_rings}
 use Rattle.td_job_host.specs.Swaps.{given_swaps}

@@ -5,9 +5,7 @@ use Rattle.serde_json.specs.Data.{Data, Items, no_items, item}
 use Rattle.serde_json.specs.View.{view, items_view}
 use Rattle.serde_json.specs.declared.value.Value.{Value}
 use Rattle.std.specs.Prelude.{Option}
-use Rattle.td_core.specs.declared.module.Module.{Module}
-use Rattle.td_core.specs.declared.module.Entry.{Entry}
-use Rattle.td_job.specs.declared.error.JobError.{JobError}
+use Rattle.td_job_host.specs.Imports.{Module, Entry, JobError}
 use Rattle.td_job_host.specs.Swaps.{Spells, AreSwaps, ElementFault, FirstSwapFault, MayLackText, MayLackSwap}
 
 -- what was read so far is a beginning: with what the elements from here on are it is what all are; a fault of these is the first of

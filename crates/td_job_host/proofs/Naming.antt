@@ -5,14 +5,10 @@ use Rattle.std.specs.Prelude.{IsSomeAnd, IsErrAnd, IfErr}
 use Rattle.serde_json.specs.Data.{Data, Members}
 use Rattle.serde_json.specs.View.{view, items_view}
 use Rattle.serde_json.specs.declared.value.Value.{Value}
-use Rattle.td_core.specs.declared.module.Module.{Module}
-use Rattle.td_core.specs.declared.module.Entry.{Entry}
+use Rattle.td_job_host.specs.Imports.{Module, Entry, JobError, NoMemory, Path}
 use Rattle.td_core.specs.Entries.{entry_definition}
 use Rattle.td_core.specs.Formed.{params_at}
 use Rattle.td_job.specs.declared.error.Key.TheVariants as key
-use Rattle.td_job.specs.declared.error.JobError.{JobError}
-use Rattle.td_job.specs.declared.error.JobError.TheVariants.{NoMemory}
-use Rattle.td_job.specs.declared.error.Path.{Path}
 use Rattle.td_job.specs.declared.error.Path.TheVariants as path
 use Rattle.td_job.specs.Fields.{IsFirst, field_of, number_of, text_of}
 use Rattle.td_job.specs.Values.{args_faults}

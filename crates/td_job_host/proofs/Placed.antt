@@ -9,13 +9,11 @@ use Rattle.serde_json.specs.Data.{Data, Items, no_items, item, Members}
 use Rattle.serde_json.specs.Events.{items_len}
 use Rattle.serde_json.specs.Find.{as_object, as_array}
 use Rattle.td_job.specs.declared.error.Key.TheVariants as key
-use Rattle.td_job.specs.declared.error.JobError.TheVariants.{Fault}
+use Rattle.td_job_host.specs.Imports.{Fault, Path, RingJob}
 use Rattle.td_job.specs.declared.error.JobRule.TheVariants as rule
-use Rattle.td_job.specs.declared.error.Path.{Path}
 use Rattle.td_job.specs.declared.error.Path.TheVariants as path
 use Rattle.td_job.specs.Fields.{fault_if}
 use Rattle.td_job.proofs.Numbers.{both_empty, not_over}
-use Rattle.td_posts.specs.declared.ring.RingJob.{RingJob}
 use Rattle.td_posts.specs.declared.limits.TheConstants.{MOST_RINGS, MOST_ENTRIES, MOST_RING_MESSAGE, MOST_TAKES}
 use Rattle.td_posts.specs.Servable.{IsRingWithin, ring_message_words}
 use Rattle.td_job_host.specs.declared.totals.Total.TheVariants.{Words}

@@ -1,12 +1,9 @@
 -- Posts of lists of stretches worked out.
 use Rattle.std.proofs.Common.{◌≡◌, ℕ, zero, suc, List, [], ◌∷◌, refl, codes}
 use Rattle.serde_json.specs.Data.{Data, Items, no_items, item, array, number, string, unsigned}
-use Rattle.td_job.specs.declared.error.JobError.{JobError}
-use Rattle.td_job.specs.declared.error.JobError.TheVariants.{Fault}
+use Rattle.td_job_host.specs.Imports.{JobError, Fault, Scatter, Stretch}
 use Rattle.td_job.specs.declared.error.JobRule.TheVariants as rule
 use Rattle.td_job.specs.declared.error.Path.TheVariants as path
-use Rattle.td_posts.specs.declared.job.Step.TheVariants.{Scatter}
-use Rattle.td_stream.specs.declared.stretch.Stretch.{Stretch}
 use Rattle.td_job_host.specs.declared.totals.Total.TheVariants.{Words}
 use Rattle.td_job_host.specs.Steps.{spelled_step, step_faults, step_in}
 use Rattle.td_job_host.specs.Totals.{weight}

@@ -6,7 +6,7 @@ use Rattle.std.proofs.lemmas.List.Elements.{All-nil, All-cons}
 use Rattle.std.specs.Prelude.{is_some}
 use Rattle.serde_json.specs.View.{view, items_view}
 use Rattle.serde_json.specs.declared.value.Value.{Value}
-use Rattle.td_stream.specs.declared.stretch.Stretch.{Stretch}
+use Rattle.td_job_host.specs.Imports.{Stretch}
 use Rattle.td_stream.specs.Layouts.{AreWithin}
 use Rattle.td_job.specs.Stretches.{spelled_stretch, stretch_of, each_stretch}
 use Rattle.td_job_host.specs.Steps.{are_stretches, are_within}

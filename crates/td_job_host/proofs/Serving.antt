@@ -8,25 +8,16 @@ use Rattle.std.specs.Prelude.{IfOk, option_and_then}
 use Rattle.serde_json.specs.Data.{Data, Items, no_items, item, Members}
 use Rattle.serde_json.specs.Events.{items_len}
 use Rattle.serde_json.specs.Find.{as_object, as_array}
-use Rattle.td_core.specs.declared.module.Module.{Module}
+use Rattle.td_job_host.specs.Imports.{Module, JobError, Fault, Path, HostJob, Step, Store, Post, Scatter, Mail, RingJob, Stretch}
 use Rattle.td_core.specs.Entries.{entry_definition}
 use Rattle.td_job.specs.declared.checks.TheConstants.{MOST_BYTES}
 use Rattle.td_job.specs.declared.error.Key.TheVariants as key
-use Rattle.td_job.specs.declared.error.JobError.{JobError}
-use Rattle.td_job.specs.declared.error.JobError.TheVariants.{Fault}
 use Rattle.td_job.specs.declared.error.JobRule.TheVariants as rule
-use Rattle.td_job.specs.declared.error.Path.{Path}
 use Rattle.td_job.specs.declared.error.Path.TheVariants as path
 use Rattle.td_job.specs.Fields.{fault_if, field_of, text_of, number_of}
 use Rattle.td_job.specs.Jobs.{spelled_word}
 use Rattle.td_job.proofs.Numbers.{both_empty, not_over}
-use Rattle.td_posts.specs.declared.job.HostJob.{HostJob}
-use Rattle.td_posts.specs.declared.job.Step.{Step}
-use Rattle.td_posts.specs.declared.job.Step.TheVariants.{Store, Post, Scatter}
-use Rattle.td_posts.specs.declared.mail.Mail.{Mail}
-use Rattle.td_posts.specs.declared.ring.RingJob.{RingJob}
 use Rattle.td_posts.specs.declared.limits.TheConstants.{MOST_GUESTS, MOST_WORKERS, MOST_SWAPS, MOST_POSTS, MOST_STORES, MOST_MESSAGE_WORDS, MOST_COPIED_BYTES}
-use Rattle.td_stream.specs.declared.stretch.Stretch.{Stretch}
 use Rattle.td_stream.specs.declared.layout.TheConstants.{MOST_STRETCHES}
 use Rattle.td_stream.specs.Layouts.{length_in, count_in, AreWithin}
 use Rattle.td_stream.proofs.Plain.{slot_count, slot_within}

@@ -4,19 +4,13 @@ use Rattle.std.specs.Prelude.{IfOk, slice_get}
 use Rattle.std.specs.List.{All}
 use Rattle.std.proofs.lemmas.List.Elements.{All-nil, All-cons}
 use Rattle.serde_json.specs.Data.{Data, Items, no_items, item}
-use Rattle.td_core.specs.declared.module.Module.{Module}
-use Rattle.td_core.specs.declared.module.Entry.{Entry}
-use Rattle.td_core.specs.declared.module.TypeDef.{TypeDef}
-use Rattle.td_core.specs.declared.module.Param.{Param}
-use Rattle.td_core.specs.declared.module.Cell.{Cell}
+use Rattle.td_job_host.specs.Imports.{Module, Entry, TypeDef, Param, Cell, JobError, HostJob}
 use Rattle.td_core.specs.Entries.{entry_definition}
 use Rattle.td_core.specs.Formed.{Bound, AllFit, cell_bound, param_bounds, cell_bounds, params_at, cells_at}
 use Rattle.td_job.specs.declared.error.Key.TheVariants as key
-use Rattle.td_job.specs.declared.error.JobError.{JobError}
 use Rattle.td_job.specs.Fields.{text_of, field_of}
 use Rattle.td_job.proofs.Numbers.{both_empty, args_fit}
 use Rattle.td_job.proofs.Unique.{named_within}
-use Rattle.td_posts.specs.declared.job.HostJob.{HostJob}
 use Rattle.td_posts.specs.Posts.{IsVersion}
 use Rattle.td_job_host.specs.Swaps.{Named, NamedRoom, named_param, named_cell, named_buffer, params_named, cells_named, buffers_named, given_swaps, Replaces, IsSwap, AreSwaps}
 use Rattle.td_job_host.specs.HostJobs.{rooms_in, IsHost, IsHostJob, IsOrStands, HasVersionValues, HasHostValues}

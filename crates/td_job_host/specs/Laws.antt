@@ -1,8 +1,6 @@
 -- What holds of host jobs and their faults.
 use Rattle.std.specs.Prelude.{◌≡◌, ℕ, List, ◌⊎◌}
-use Rattle.td_core.specs.declared.module.Module.{Module}
-use Rattle.td_job.specs.declared.error.JobError.{JobError}
-use Rattle.td_posts.specs.declared.job.HostJob.{HostJob}
+use Rattle.td_job_host.specs.Imports.{Module, JobError, HostJob}
 use Rattle.td_job_host.specs.HostJobs.{IsHostJob, RefusedHostJob, KeepsLimits}
 
 -- bytes stand for at most one host job

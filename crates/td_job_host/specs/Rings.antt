@@ -7,16 +7,12 @@ use Rattle.std.specs.Prelude.{ℕ, ◌+◌, ◌*◌, List, [], ◌∷◌, ◌++�
 use Rattle.serde_json.specs.Data.{Data, Items, no_items, item, Members}
 use Rattle.serde_json.specs.Events.{items_len}
 use Rattle.serde_json.specs.Find.{as_array, as_object}
-use Rattle.td_job.specs.declared.error.Key.{Key}
+use Rattle.td_job_host.specs.Imports.{Key, JobError, Fault, Path, RingJob}
 use Rattle.td_job.specs.declared.error.Key.TheVariants as key
-use Rattle.td_job.specs.declared.error.JobError.{JobError}
-use Rattle.td_job.specs.declared.error.JobError.TheVariants.{Fault}
 use Rattle.td_job.specs.declared.error.JobRule.TheVariants as rule
-use Rattle.td_job.specs.declared.error.Path.{Path}
 use Rattle.td_job.specs.declared.error.Path.TheVariants as path
 use Rattle.td_job.specs.Fields.{field_of, number_of, fault_if, fault_if_none}
 use Rattle.td_job.specs.Jobs.{first_unknown, unknown_faults}
-use Rattle.td_posts.specs.declared.ring.RingJob.{RingJob}
 use Rattle.td_posts.specs.declared.limits.TheConstants.{MOST_RINGS, MOST_ENTRIES, MOST_RING_MESSAGE, MOST_TAKES}
 use Rattle.td_job_host.specs.declared.rings.SpelledRing.{SpelledRing}
 use Rattle.td_job_host.specs.Guests.{listed_in}

@@ -8,19 +8,14 @@ use Rattle.serde_json.specs.Data.{Data, Items, no_items, item}
 use Rattle.serde_json.specs.View.{items_view}
 use Rattle.serde_json.specs.Find.{as_str, as_array}
 use Rattle.td_job.specs.declared.checks.TheConstants.{MOST_BYTES}
-use Rattle.td_job.specs.declared.error.JobError.{JobError}
-use Rattle.td_job.specs.declared.error.JobError.TheVariants.{Fault}
+use Rattle.td_job_host.specs.Imports.{JobError, Fault, Path, Stretch, Step, Store, Post, Scatter}
 use Rattle.td_job.specs.declared.error.JobRule.TheVariants as rule
-use Rattle.td_job.specs.declared.error.Path.{Path}
 use Rattle.td_job.specs.declared.error.Path.TheVariants as path
 use Rattle.td_job.specs.Fields.{whole, fault_if, fault_if_none}
 use Rattle.td_job.specs.Jobs.{spelled_word}
 use Rattle.td_job.specs.Stretches.{spelled_stretch, each_stretch}
-use Rattle.td_stream.specs.declared.stretch.Stretch.{Stretch}
 use Rattle.td_stream.specs.declared.layout.TheConstants.{MOST_STRETCHES}
 use Rattle.td_stream.specs.Layouts.{length_in}
-use Rattle.td_posts.specs.declared.job.Step.{Step}
-use Rattle.td_posts.specs.declared.job.Step.TheVariants.{Store, Post, Scatter}
 use Rattle.td_posts.specs.Posts.{words_in}
 use Rattle.td_job_host.specs.declared.steps.Spelled.{Spelled}
 use Rattle.td_job_host.specs.declared.steps.Spelled.TheVariants as code

@@ -2,16 +2,11 @@
 -- that its rings' takes can have, and copy buffers of 16,777,216 bytes in all, those of each post and of each take (J8).
 use Rattle.std.specs.Prelude.{ℕ, ◌+◌, ◌*◌, List, ◌++◌, nat_lt}
 use Rattle.std.specs.List.{sum_by}
-use Rattle.td_job.specs.declared.error.Key.{Key}
+use Rattle.td_job_host.specs.Imports.{Key, JobError, Fault, Step, Store, Post, Scatter, RingJob}
 use Rattle.td_job.specs.declared.error.Key.TheVariants as key
-use Rattle.td_job.specs.declared.error.JobError.{JobError}
-use Rattle.td_job.specs.declared.error.JobError.TheVariants.{Fault}
 use Rattle.td_job.specs.declared.error.JobRule.TheVariants as rule
 use Rattle.td_job.specs.declared.error.Path.TheVariants as path
 use Rattle.td_job.specs.Fields.{fault_if}
-use Rattle.td_posts.specs.declared.job.Step.{Step}
-use Rattle.td_posts.specs.declared.job.Step.TheVariants.{Store, Post, Scatter}
-use Rattle.td_posts.specs.declared.ring.RingJob.{RingJob}
 use Rattle.td_posts.specs.declared.limits.TheConstants.{MOST_POSTS, MOST_STORES, MOST_MESSAGE_WORDS, MOST_COPIED_BYTES}
 use Rattle.td_posts.specs.Posts.{words_in}
 use Rattle.td_posts.specs.Servable.{ring_message_words}

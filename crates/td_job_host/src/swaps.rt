@@ -2,9 +2,8 @@
 
 ghost use Rattle.std.specs.Prelude.{◌≡◌, ◌≢◌, ◌<◌, ◌≤◌, ◌-◌, ◌^◌, ◌∷◌, ◌++◌, ◌↔◌, [], ◌⊎◌, IsTrue, Err, None, map, option_map, length, IfOk, IfErr, IfSome, OnOk, OnErr};
 ghost use Rattle.serde_json.specs.View.{view, items_view};
-ghost use Rattle.td_core.specs.declared.module.Entry.{Entry};
+ghost use Rattle.td_job_host.specs.Imports.{Entry, FrontError};
 ghost use Rattle.td_core.specs.Entries.{entry_definition, name_bytes};
-ghost use Rattle.td_front.specs.declared.error.FrontError.{FrontError};
 ghost use Rattle.td_front.specs.ModuleText.{IsModuleText, RefusedBy};
 ghost use Rattle.td_lexer.specs.Splits.{HasToken};
 ghost use Rattle.td_job.specs.Fields.{field_of, text_of, IsFirst};

@@ -42,7 +42,7 @@ fn cases_kind(kinds: &[Kind], otherwise: Option<Kind>, cases: &[Case]) -> Kind
 }
 
 /// The first of what is refused of a struct or a casetype, in the order of the text.
-pub fn body_fault(kinds: &[Kind], body: &Body) -> Option<KindFault>
+pub(crate) fn body_fault(kinds: &[Kind], body: &Body) -> Option<KindFault>
     ensures { result ≡ first_fault (body_faults (kind_at kinds.now) body.now) }
 {
     match body {

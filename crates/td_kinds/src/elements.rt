@@ -9,7 +9,7 @@ use td_core::module::Element;
 use td_num::number::byte_count;
 
 /// The kind of an element, by the kinds of the definitions before it, in their order.
-pub fn element_kind(kinds: &[Kind], element: &Element) -> Kind
+pub(crate) fn element_kind(kinds: &[Kind], element: &Element) -> Kind
     ensures { result ≡ element_kind (kind_at kinds.now) element.now }
 {
     match element {

@@ -2,7 +2,6 @@
 
 use std::alloc::{AllocError, AllocFailed};
 use td_ast::token::Span;
-use thiserror::Error;
 
 /// A field whose kind is refused; the place is its name's.
 #[derive(Clone, Copy, PartialEq, Eq, Debug)]
@@ -14,16 +13,13 @@ pub enum KindFault {
 }
 
 /// Why a module has no kinds.
-#[derive(Clone, Copy, PartialEq, Eq, Debug, Drop, Error)]
+#[derive(Clone, Copy, PartialEq, Eq, Drop)]
 pub enum KindError {
     /// K1: an element of this field's byte-sized array may take no byte.
-    #[error("element may be empty")]
     ZeroElement { span: Span },
     /// K2: this field takes all bytes up to the end and isn't the last, or elements of its byte-sized array take them.
-    #[error("rest not last")]
     RestNotLast { span: Span },
     /// There was no memory for the kinds.
-    #[error("out of memory")]
     NoMemory,
 }
 

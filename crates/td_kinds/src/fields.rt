@@ -12,7 +12,7 @@ use td_core::module::{Element, Extent, Field};
 use td_expr::constant::constant_of;
 
 /// The kind of a field.
-pub fn field_kind(kinds: &[Kind], element: &Element, extent: &Extent) -> Kind
+pub(crate) fn field_kind(kinds: &[Kind], element: &Element, extent: &Extent) -> Kind
     ensures { result ≡ field_kind (kind_at kinds.now) element.now extent.now }
 {
     match extent {
@@ -23,7 +23,7 @@ pub fn field_kind(kinds: &[Kind], element: &Element, extent: &Extent) -> Kind
 }
 
 /// What is refused of a field, which may be the last of its struct, case or `default`. K1 is named before K2.
-pub fn field_fault(kinds: &[Kind], field: &Field, last: bool) -> Option<KindFault>
+pub(crate) fn field_fault(kinds: &[Kind], field: &Field, last: bool) -> Option<KindFault>
     ensures { result ≡ first_fault (field_faults (kind_at kinds.now) field.now last) }
 {
     let span = field.place;
@@ -45,7 +45,7 @@ pub fn field_fault(kinds: &[Kind], field: &Field, last: bool) -> Option<KindFaul
 }
 
 /// The kind of fields one after the other, from the last one back.
-pub fn fields_kind(kinds: &[Kind], fields: &[Field]) -> Kind
+pub(crate) fn fields_kind(kinds: &[Kind], fields: &[Field]) -> Kind
     ensures { result ≡ fields_kind (kind_at kinds.now) fields.now }
 {
     let mut kind = exactly(0);
@@ -58,7 +58,7 @@ pub fn fields_kind(kinds: &[Kind], fields: &[Field]) -> Kind
 }
 
 /// The first of what is refused of fields, in the order of the text.
-pub fn fields_fault(kinds: &[Kind], fields: &[Field]) -> Option<KindFault>
+pub(crate) fn fields_fault(kinds: &[Kind], fields: &[Field]) -> Option<KindFault>
     ensures { result ≡ first_fault (fields_faults (kind_at kinds.now) fields.now) }
 {
     let count = fields.len();

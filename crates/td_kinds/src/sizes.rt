@@ -20,7 +20,7 @@ pub fn exactly(size: u64) -> Kind
 }
 
 /// Values of any size from a least one on.
-pub fn at_least(size: u64) -> Kind
+pub(crate) fn at_least(size: u64) -> Kind
     ensures { result ≡ at_least size }
 {
     Kind {
@@ -31,7 +31,7 @@ pub fn at_least(size: u64) -> Kind
 }
 
 /// Values that take all bytes up to the end.
-pub fn all_left() -> Kind
+pub(crate) fn all_left() -> Kind
     ensures { result ≡ all_left }
 {
     Kind {

@@ -1,8 +1,7 @@
 -- The first of excesses, over capped numbers, and what one more definition adds. Cited by other crates.
 use Rattle.std.proofs.Common.{◌≡◌, ℕ, ◌+◌, ◌-◌, ◌^◌, ◌<◌, ◌≤◌, Bool, true, false, cond, nat_lt, List, [], ◌∷◌, ◌++◌, Option, Some, None, is_some, refl, sym, ap, ap₂, ◌∙◌, arith}
 use Rattle.std.proofs.lemmas.Bool.{ltb-true, ltb-false, lt-ltb, le-ltb}
-use Rattle.td_ast.specs.declared.token.Span.{Span}
-use Rattle.td_ast.specs.declared.definitions.Def.{Def}
+use Rattle.td_limits.specs.Imports.{Span, Def}
 use Rattle.td_limits.specs.declared.limits.Limit.{Limit}
 use Rattle.td_limits.specs.declared.limits.Limit.TheVariants as limit
 use Rattle.td_limits.specs.declared.limits.Excess.{Excess}

@@ -1,6 +1,6 @@
 -- What one more definition adds to the sizes of a text.
 use Rattle.std.proofs.Common.{◌≡◌, ℕ, ◌+◌, ◌≤◌, List, ◌∷◌, ◌++◌, Option, Some, None, sym, ap, ap₂, ◌∙◌, arith}
-use Rattle.td_ast.specs.declared.definitions.Def.{Def}
+use Rattle.td_limits.specs.Imports.{Def}
 use Rattle.td_names.specs.Names.{declared}
 use Rattle.td_limits.specs.declared.limits.Limit.TheVariants as limit
 use Rattle.td_limits.specs.declared.limits.Excess.{Excess}

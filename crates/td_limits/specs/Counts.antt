@@ -1,11 +1,7 @@
 -- The limits of a text by count (own rules), each at the name of the definition in which it is passed: at one place in
 -- the order of `Limit`.
 use Rattle.std.specs.Prelude.{ℕ, ◌+◌, ◌≤◌, max, List, [], ◌∷◌, ◌++◌, map, flat_map, length, Option, Some, None}
-use Rattle.td_ast.specs.declared.fields.FieldTree.{FieldTree}
-use Rattle.td_ast.specs.declared.definitions.CaseTree.{CaseTree}
-use Rattle.td_ast.specs.declared.definitions.Def.{Def}
-use Rattle.td_ast.specs.declared.definitions.Def.TheVariants.{Define, Enum, Alias, Struct, Casetype, Output}
-use Rattle.td_ast.specs.declared.definitions.ModuleTree.{ModuleTree}
+use Rattle.td_limits.specs.Imports.{FieldTree, CaseTree, Def, Define, Enum, Alias, Struct, Casetype, Output, ModuleTree}
 use Rattle.td_ast.specs.declared.parts.PartTree.{PartTree}
 use Rattle.td_core.specs.declared.limits.TheConstants.{MOST_DEFINITIONS, MOST_FIELDS, MOST_CASES, MOST_PARAMETERS, MOST_NODES, MOST_ACTION_NODES}
 use Rattle.td_limits.specs.declared.limits.Limit.TheVariants.{Definitions, Fields, Cases, Parameters, Nodes, Action}

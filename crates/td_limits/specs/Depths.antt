@@ -6,28 +6,13 @@ use Rattle.td_ast.specs.Trees as tree
 use Rattle.td_ast.specs.Statements.{Statement, Store, StoreField, Var, If, IfElse, Return, Abort, Statements, End, More, block_of}
 use Rattle.td_ast.specs.declared.expressions.SizeofOperand.{SizeofOperand}
 use Rattle.td_ast.specs.declared.expressions.SizeofOperand.TheVariants as operand
-use Rattle.td_ast.specs.declared.actions.Assigned.{Assigned}
-use Rattle.td_ast.specs.declared.actions.Assigned.TheVariants.{Value, FieldPtr}
-use Rattle.td_ast.specs.declared.actions.ActionTree.{ActionTree}
-use Rattle.td_ast.specs.declared.actions.ActionTree.TheVariants.{Done, Copied}
+use Rattle.td_limits.specs.Imports.{Assigned, Value, FieldPtr, ActionTree, Done, Copied, PlainTree, TypeKind, ExtentTree, Bytes, ByteSize, SingleElement, Zeroterm, Bits, FieldTree, HeadTree, ParamTree, TargetTree, ItemTree, CaseTree, Def, Define, Enum, Alias, Struct, Casetype, Output}
 use Rattle.td_ast.specs.declared.names.ConstTree.{ConstTree}
 use Rattle.td_ast.specs.declared.names.ConstTree.TheVariants as constant
-use Rattle.td_ast.specs.declared.names.PlainTree.{PlainTree}
 use Rattle.td_ast.specs.declared.names.PlainTree.TheVariants as plain
-use Rattle.td_ast.specs.declared.fields.TypeKind.{TypeKind}
 use Rattle.td_ast.specs.declared.fields.TypeKind.TheVariants as type
-use Rattle.td_ast.specs.declared.fields.ExtentTree.{ExtentTree}
-use Rattle.td_ast.specs.declared.fields.ExtentTree.TheVariants.{Bytes, ByteSize, SingleElement, Zeroterm, Bits}
-use Rattle.td_ast.specs.declared.fields.FieldTree.{FieldTree}
-use Rattle.td_ast.specs.declared.parameters.HeadTree.{HeadTree}
-use Rattle.td_ast.specs.declared.parameters.ParamTree.{ParamTree}
 use Rattle.td_ast.specs.declared.parameters.ParamTree.TheVariants as param
-use Rattle.td_ast.specs.declared.parameters.TargetTree.{TargetTree}
 use Rattle.td_ast.specs.declared.parameters.TargetTree.TheVariants as pointee
-use Rattle.td_ast.specs.declared.definitions.ItemTree.{ItemTree}
-use Rattle.td_ast.specs.declared.definitions.CaseTree.{CaseTree}
-use Rattle.td_ast.specs.declared.definitions.Def.{Def}
-use Rattle.td_ast.specs.declared.definitions.Def.TheVariants.{Define, Enum, Alias, Struct, Casetype, Output}
 use Rattle.td_limits.specs.Excesses.{greatest}
 use Rattle.td_limits.specs.Measures.{Measures, constant_depth_of, type_depth_of}
 

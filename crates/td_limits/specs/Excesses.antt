@@ -1,10 +1,8 @@
 -- Excesses over limits (own rule): each at the name of the definition in which the limit is passed. The first is that of
 -- the earliest definition, and at one definition the first in the order of `Limit`.
 use Rattle.std.specs.Prelude.{ℕ, ◌^◌, ◌-◌, cond, max, min, nat_lt, List, [], ◌∷◌, Option, Some, None}
-use Rattle.td_ast.specs.declared.token.Span.{Span}
+use Rattle.td_limits.specs.Imports.{Span, Def, Define, Enum, Alias, Struct, Casetype, Output}
 use Rattle.td_ast.specs.declared.names.Name.{Name}
-use Rattle.td_ast.specs.declared.definitions.Def.{Def}
-use Rattle.td_ast.specs.declared.definitions.Def.TheVariants.{Define, Enum, Alias, Struct, Casetype, Output}
 use Rattle.td_limits.specs.declared.limits.Limit.{Limit}
 use Rattle.td_limits.specs.declared.limits.Excess.{Excess}
 

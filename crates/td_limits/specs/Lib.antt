@@ -1,3 +1,4 @@
+pub mod Imports
 pub mod Excesses
 pub mod Nodes
 pub mod Counts

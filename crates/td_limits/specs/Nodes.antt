@@ -4,19 +4,8 @@
 use Rattle.std.specs.Prelude.{ℕ, ◌+◌, List, length, map, sum, Option, Some, None}
 use Rattle.td_ast.specs.Trees.{Tree, tree_size}
 use Rattle.td_ast.specs.Statements.{Statement, Store, StoreField, Var, If, IfElse, Return, Abort, Statements, End, More, block_of}
-use Rattle.td_ast.specs.declared.actions.Assigned.{Assigned}
-use Rattle.td_ast.specs.declared.actions.Assigned.TheVariants.{Value, FieldPtr}
-use Rattle.td_ast.specs.declared.actions.ActionTree.{ActionTree}
-use Rattle.td_ast.specs.declared.actions.ActionTree.TheVariants.{Done, Copied}
-use Rattle.td_ast.specs.declared.fields.TypeKind.{TypeKind}
+use Rattle.td_limits.specs.Imports.{Assigned, Value, FieldPtr, ActionTree, Done, Copied, TypeKind, ExtentTree, Bytes, ByteSize, SingleElement, Zeroterm, Bits, FieldTree, HeadTree, CaseTree, Def, Define, Enum, Alias, Struct, Casetype, Output}
 use Rattle.td_ast.specs.declared.fields.TypeKind.TheVariants as type
-use Rattle.td_ast.specs.declared.fields.ExtentTree.{ExtentTree}
-use Rattle.td_ast.specs.declared.fields.ExtentTree.TheVariants.{Bytes, ByteSize, SingleElement, Zeroterm, Bits}
-use Rattle.td_ast.specs.declared.fields.FieldTree.{FieldTree}
-use Rattle.td_ast.specs.declared.parameters.HeadTree.{HeadTree}
-use Rattle.td_ast.specs.declared.definitions.CaseTree.{CaseTree}
-use Rattle.td_ast.specs.declared.definitions.Def.{Def}
-use Rattle.td_ast.specs.declared.definitions.Def.TheVariants.{Define, Enum, Alias, Struct, Casetype, Output}
 
 abbrev pub option_nodes : Option Tree → ℕ
 option_nodes None = 0

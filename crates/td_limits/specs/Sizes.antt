@@ -1,9 +1,6 @@
 -- The limits of a text by size (own rules).
 use Rattle.std.specs.Prelude.{ℕ, ◌+◌, List, [], ◌∷◌, ◌++◌, length, Option}
-use Rattle.td_ast.specs.declared.definitions.ItemTree.{ItemTree}
-use Rattle.td_ast.specs.declared.definitions.Def.{Def}
-use Rattle.td_ast.specs.declared.definitions.Def.TheVariants.{Define, Enum, Alias, Struct, Casetype, Output}
-use Rattle.td_ast.specs.declared.definitions.ModuleTree.{ModuleTree}
+use Rattle.td_limits.specs.Imports.{ItemTree, Def, Define, Enum, Alias, Struct, Casetype, Output, ModuleTree}
 use Rattle.td_names.specs.Names.{declared}
 use Rattle.td_core.specs.declared.limits.TheConstants.{MOST_CELLS, MOST_DEPTH, MOST_WEIGHT}
 use Rattle.td_limits.specs.declared.limits.Limit.TheVariants.{Cells, Depth, Weight}

@@ -4,19 +4,11 @@
 use Rattle.std.specs.Prelude.{ℕ, ◌+◌, ◌*◌, Bool, cond, List, map, sum, length, Option, Some, None}
 use Rattle.td_ast.specs.Extents.{is_array}
 use Rattle.td_ast.specs.Trees.{tree_size}
-use Rattle.td_ast.specs.declared.names.PlainTree.{PlainTree}
+use Rattle.td_limits.specs.Imports.{PlainTree, TypeKind, FieldTree, HeadTree, ParamTree, TargetTree, CaseTree, Def, Define, Enum, Alias, Struct, Casetype, Output}
 use Rattle.td_ast.specs.declared.names.PlainTree.TheVariants as plain
-use Rattle.td_ast.specs.declared.fields.TypeKind.{TypeKind}
 use Rattle.td_ast.specs.declared.fields.TypeKind.TheVariants as type
-use Rattle.td_ast.specs.declared.fields.FieldTree.{FieldTree}
-use Rattle.td_ast.specs.declared.parameters.HeadTree.{HeadTree}
-use Rattle.td_ast.specs.declared.parameters.ParamTree.{ParamTree}
 use Rattle.td_ast.specs.declared.parameters.ParamTree.TheVariants as param
-use Rattle.td_ast.specs.declared.parameters.TargetTree.{TargetTree}
 use Rattle.td_ast.specs.declared.parameters.TargetTree.TheVariants as pointee
-use Rattle.td_ast.specs.declared.definitions.CaseTree.{CaseTree}
-use Rattle.td_ast.specs.declared.definitions.Def.{Def}
-use Rattle.td_ast.specs.declared.definitions.Def.TheVariants.{Define, Enum, Alias, Struct, Casetype, Output}
 use Rattle.td_limits.specs.Measures.{Measures, type_weight_of, type_cells_of}
 use Rattle.td_limits.specs.Nodes.{inner_nodes, head_nodes}
 

@@ -1,7 +1,7 @@
 //! The limits by count.
 
 ghost use Rattle.std.specs.Prelude.{◌≡◌, ◌+◌, ◌++◌, List, Some, length, IfOk, MatchResult};
-ghost use Rattle.td_ast.specs.declared.definitions.Def.{Def};
+ghost use Rattle.td_limits.specs.Imports.{Def};
 ghost use Rattle.td_limits.specs.Counts.{AreWithin, count_cases, count_excesses, count_params, counts_passed, counts_passed_in, default_count, definition_counts, longest_case, most_action, most_fields};
 ghost use Rattle.td_limits.specs.Excesses.{capped, definition_name, first_excess};
 

@@ -3,25 +3,12 @@ use Rattle.std.proofs.Common.{◌≡◌, ℕ, zero, suc, ◌+◌, ◌<◌, ◌�
 use Rattle.std.proofs.lemmas.List.{length-map}
 use Rattle.td_num.specs.declared.number.Width.TheVariants.{One}
 use Rattle.td_num.specs.Lists.{Each, is_among}
-use Rattle.td_core.specs.declared.module.NameId.{NameId}
-use Rattle.td_core.specs.declared.module.Param.{Param}
-use Rattle.td_core.specs.declared.module.Cell.{Cell}
-use Rattle.td_core.specs.declared.module.Buffer.{Buffer}
+use Rattle.td_lower.specs.Imports.{NameId, Param, Cell, Buffer, Part, Field, Case, Body, Struct, Casetype, TypeDef, Module, EntryPoint, Parts, Site}
 use Rattle.td_core.specs.declared.module.CellKind.TheVariants.{Pointer}
-use Rattle.td_core.specs.declared.module.Part.{Part}
-use Rattle.td_core.specs.declared.module.Field.{Field}
-use Rattle.td_core.specs.declared.module.Case.{Case}
-use Rattle.td_core.specs.declared.module.Body.{Body}
-use Rattle.td_core.specs.declared.module.Body.TheVariants.{Struct, Casetype}
-use Rattle.td_core.specs.declared.module.TypeDef.{TypeDef}
-use Rattle.td_core.specs.declared.module.Module.{Module}
 use Rattle.td_core.specs.Formed.{own_bounds, param_bounds}
 use Rattle.td_core.specs.Copies.{IsDefinitionCopying}
 use Rattle.td_core.specs.WellFormed.{OfSome, EachField, HasParts, IsNameThere, IsDefinitionNamed, DefinitionWithin}
 use Rattle.td_meaning.specs.Meaning as meaning
-use Rattle.td_ir.specs.declared.tables.EntryPoint.{EntryPoint}
-use Rattle.td_ir.specs.declared.tables.Parts.{Parts}
-use Rattle.td_ir.specs.declared.tables.Site.{Site}
 use Rattle.td_ir.specs.Tables.{routine_of, site_of, entry_of, param_of, cell_of, lengths_of, begin}
 use Rattle.td_ir.specs.WellFormed.{IsName as IsNameIn, IsField, IsSite, IsRoutine, IsCellNamed, AreBuffers, IsEntry, IsCode}
 use Rattle.td_lower_blocks.specs.Block.{size, LayingOut}

@@ -6,18 +6,9 @@ use Rattle.td_core.specs.declared.expressions.Relation.TheVariants.{Equal, NotEq
 use Rattle.td_core.specs.Term.{Term, number, name, complement, negation, compute, compare, both, either, choice, range_okay, measure, Deed, done, set, keep, fork, answer, give_up}
 use Rattle.td_core.specs.Formed.{Bound, scalar_of, whole, param_bounds, given, part_bound, parts_scope, IsScoped, IsOptionScoped, IsDeedFormed, IsActionFormed, ArePartsFormed, AreArgsFormed, params_at, IsElementFormed, IsExtentFormed, AreFieldsFormed, AreCasesFormed, IsDefaultFormed, IsBodyFormed, IsDefinitionFormed}
 use Rattle.td_core.specs.declared.expressions.Scalar.TheVariants as scalar
-use Rattle.td_core.specs.declared.module.Param.{Param}
-use Rattle.td_core.specs.declared.module.Element.{Element}
-use Rattle.td_core.specs.declared.module.Element.TheVariants.{Number, Listed, Named, Unit as UnitElement, Rest, Zeros}
+use Rattle.td_lower.specs.Imports.{Param, Element, Number, Listed, Named, Unit as UnitElement, Rest, Zeros, CopyOut, Part, Field, Case, Body, Struct, Casetype, TypeDef}
 use Rattle.td_core.specs.declared.module.Extent.{Extent}
 use Rattle.td_core.specs.declared.module.Extent.TheVariants.{Once, Filling, OnceFilling, UpToZero}
-use Rattle.td_core.specs.declared.module.CopyOut.{CopyOut}
-use Rattle.td_core.specs.declared.module.Part.{Part}
-use Rattle.td_core.specs.declared.module.Field.{Field}
-use Rattle.td_core.specs.declared.module.Case.{Case}
-use Rattle.td_core.specs.declared.module.Body.{Body}
-use Rattle.td_core.specs.declared.module.Body.TheVariants.{Struct, Casetype}
-use Rattle.td_core.specs.declared.module.TypeDef.{TypeDef}
 use Rattle.td_core.specs.Weights.{option_nodes, terms_nodes, deed_nodes, action_nodes, element_nodes, extent_nodes, part_nodes, total, fields_nodes, default_nodes, cases_nodes, body_nodes, head_nodes}
 use Rattle.td_lower_blocks.specs.Constructs.{Expr}
 use Rattle.td_lower_blocks.specs.Lowered.{compared_of, mask_of, expr_of, terms_of}

@@ -1,13 +1,10 @@
 -- The code of a module is accepted, and does what the module means.
 use Rattle.std.proofs.Common.{◌≡◌, ℕ, ◌+◌, ◌^◌, ◌<◌, ◌≤◌, List, [], ◌∷◌, length, slice_get, Some, sym, ap, subst, arith}
 use Rattle.std.proofs.lemmas.List.{length-append}
-use Rattle.td_core.specs.declared.module.NameId.{NameId}
+use Rattle.td_lower.specs.Imports.{NameId, TypeDef, Module, Parts}
 use Rattle.td_lower.specs.Tables.{where_name, switch_name, definition_sites, definitions_sites}
 use Rattle.td_lower.proofs.Standing.{all_sites}
-use Rattle.td_core.specs.declared.module.TypeDef.{TypeDef}
-use Rattle.td_core.specs.declared.module.Module.{Module}
 use Rattle.td_core.specs.WellFormed.{DefinitionWithin}
-use Rattle.td_ir.specs.declared.tables.Parts.{Parts}
 use Rattle.td_ir.specs.Tables.{routine_of}
 use Rattle.td_ir.specs.WellFormed.{IsCode}
 use Rattle.td_verify.specs.Verify.{IsSound}

@@ -3,8 +3,7 @@ use Rattle.std.proofs.Common.{◌≡◌, ℕ, ◌+◌, ◌-◌, ◌*◌, ◌/◌
 use Rattle.std.proofs.lemmas.List.{length-take-le, take_at, drop_at, take-append-drop}
 use Rattle.std.proofs.lemmas.Bool.Decides.{nat_tests}
 use Rattle.td_num.specs.Lists.{Each}
-use Rattle.td_core.specs.declared.module.Buffer.{Buffer}
-use Rattle.td_core.specs.declared.module.TypeDef.{TypeDef}
+use Rattle.td_lower.specs.Imports.{Buffer, TypeDef}
 use Rattle.td_core.specs.Copies.{AreBuffersGiven, AreOwnGiven}
 use Rattle.td_ir.specs.Tables.{buffer_cells, own_cells}
 use Rattle.td_lower.specs.Tables.{number_for, in_map, map_for}

@@ -1,13 +1,7 @@
 -- A type that is named stands earlier, and is given as many cells as it has.
 use Rattle.std.proofs.Common.{◌≡◌, ℕ, ◌<◌, List, [], ◌∷◌, length, slice_get, Option, Some, None}
 use Rattle.td_num.specs.Lists.{Each}
-use Rattle.td_core.specs.declared.module.Element.{Element}
-use Rattle.td_core.specs.declared.module.Element.TheVariants.{Number, Listed, Named, Unit as UnitElement, Rest, Zeros}
-use Rattle.td_core.specs.declared.module.Field.{Field}
-use Rattle.td_core.specs.declared.module.Case.{Case}
-use Rattle.td_core.specs.declared.module.Body.{Body}
-use Rattle.td_core.specs.declared.module.Body.TheVariants.{Struct, Casetype}
-use Rattle.td_core.specs.declared.module.TypeDef.{TypeDef}
+use Rattle.td_lower.specs.Imports.{Element, Number, Listed, Named, Unit as UnitElement, Rest, Zeros, Field, Case, Body, Struct, Casetype, TypeDef}
 use Rattle.td_core.specs.Formed.{Bound, own_at, parts_scope, IsElementFormed, AreFieldsFormed, AreCasesFormed, IsDefaultFormed, IsBodyFormed}
 use Rattle.td_core.specs.WellFormed.{OfSome, EachField}
 use Rattle.td_core.proofs.Found.{cells_mapped}

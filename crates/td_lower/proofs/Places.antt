@@ -1,9 +1,6 @@
 -- Where the routines of a module begin, and what stands there. Cited by other crates.
 use Rattle.std.proofs.Common.{◌≡◌, ℕ, zero, suc, ◌+◌, ◌-◌, ◌<◌, ◌≤◌, List, [], ◌∷◌, ◌++◌, length, slice_index_or, slice_get, Option, Some, None, refl, sym, ap, subst, ◌∙◌, arith, length-append, append_assoc, append-nil}
-use Rattle.td_core.specs.declared.module.TypeDef.{TypeDef}
-use Rattle.td_ir.specs.declared.instructions.Instr.{Instr}
-use Rattle.td_ir.specs.declared.tables.Parts.{Parts}
-use Rattle.td_ir.specs.declared.tables.Routine.{Routine}
+use Rattle.td_lower.specs.Imports.{TypeDef, Instr, Parts, Routine}
 use Rattle.td_ir.specs.Tables.{no_routine, routine_of, lengths_of, begin, first_of}
 use Rattle.td_ir.proofs.Begins.{length_there}
 use Rattle.td_lower_blocks.specs.Block.{size, code, Stands, LayingOut}

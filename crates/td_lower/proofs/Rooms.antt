@@ -1,10 +1,6 @@
 -- A checked module's definitions have room in the operands of instructions. Cited by other crates.
 use Rattle.std.proofs.Common.{◌≡◌, ℕ, zero, suc, ◌+◌, ◌*◌, ◌≤◌, List, [], ◌∷◌, length, slice_get, Option, Some, None, subst, arith}
-use Rattle.td_core.specs.declared.module.Field.{Field}
-use Rattle.td_core.specs.declared.module.Case.{Case}
-use Rattle.td_core.specs.declared.module.Body.{Body}
-use Rattle.td_core.specs.declared.module.Body.TheVariants.{Struct, Casetype}
-use Rattle.td_core.specs.declared.module.TypeDef.{TypeDef}
+use Rattle.td_lower.specs.Imports.{Field, Case, Body, Struct, Casetype, TypeDef}
 use Rattle.td_core.specs.Weights.{fields_nodes, default_nodes, cases_nodes, body_nodes, head_nodes, definitions_nodes}
 use Rattle.td_lower_blocks.specs.Lowered.{parts_in, cases_parts, default_parts, body_parts, first_site}
 use Rattle.td_lower.proofs.Standing.{first_behind}

@@ -180,7 +180,7 @@ fn push_definition_maps(
 }
 
 /// A cell map for each site of definitions. `AllocError`: there was no memory for it.
-pub fn push_maps(
+pub(crate) fn push_maps(
     alloc: Global,
     maps: &mut Items<Items<u32>>,
     definitions: &[TypeDef],

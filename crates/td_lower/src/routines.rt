@@ -1,7 +1,7 @@
 //! The routines of a module's definitions, and their instructions.
 
 ghost use Rattle.std.specs.Prelude.{◌≡◌, ◌<◌, ◌^◌, ◌++◌, ◌∷◌, [], ℕ, length, OnOk, IfOk, Some, slice_get};
-ghost use Rattle.td_core.specs.declared.module.TypeDef.{TypeDef};
+ghost use Rattle.td_lower.specs.Imports.{TypeDef};
 ghost use Rattle.td_lower_blocks.specs.Block.{size};
 ghost use Rattle.td_lower_blocks.specs.Constructs.{body};
 ghost use Rattle.td_lower_blocks.specs.Lowered.{definition_body, first_site};
@@ -71,7 +71,7 @@ fn write_routine(
 
 /// Writes the code of definitions, one behind the other, and the table of their routines. `AllocError`: there was no memory
 /// for it.
-pub fn write_routines(
+pub(crate) fn write_routines(
     alloc: Global,
     code: &mut Writer,
     routines: &mut Items<Routine>,

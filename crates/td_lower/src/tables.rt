@@ -132,7 +132,7 @@ fn push_definition(
 
 /// The sites of definitions, whose routines are numbered from `routine` on, with the names that stand for `where` and the
 /// switch value. `AllocError`: there was no memory for it.
-pub fn push_sites(
+pub(crate) fn push_sites(
     sites: &mut Items<Site>,
     place: NameId,
     switch: NameId,
@@ -191,7 +191,7 @@ fn entry_for(alloc: Global, definitions: &[TypeDef], place: u32) -> Result<Entry
 }
 
 /// The entry points at places of definitions. `AllocError`: there was no memory for it.
-pub fn push_entries(
+pub(crate) fn push_entries(
     alloc: Global,
     entries: &mut Items<EntryPoint>,
     definitions: &[TypeDef],

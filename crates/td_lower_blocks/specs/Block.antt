@@ -1,8 +1,7 @@
 -- Code in blocks (own rule; docs/language/code.md): no place is written down before a block is laid out.
 use Rattle.std.specs.Prelude.{◌≡◌, ℕ, ◌+◌, Bool, true, false, List, [], ◌∷◌, ◌++◌, length}
-use Rattle.td_ir.specs.declared.instructions.Instr.{Instr}
+use Rattle.td_lower_blocks.specs.Imports.{Instr, Parts}
 use Rattle.td_ir.specs.declared.instructions.Instr.TheVariants as i
-use Rattle.td_ir.specs.declared.tables.Parts.{Parts}
 use Rattle.td_ir.specs.Tables.{instruction_of}
 
 -- nothing; a straight instruction or a call, and what follows; Return or Fail; a jump to the end of the nearest scope; a

@@ -1,9 +1,7 @@
 -- Code that is the blocks of a module's definitions, laid out.
 use Rattle.std.specs.Prelude.{◌≡◌, ℕ, ◌<◌, List, length, map, Some, slice_get}
 use Rattle.td_core.specs.declared.module.Buffer.{Buffer}
-use Rattle.td_core.specs.declared.module.TypeDef.{TypeDef}
-use Rattle.td_core.specs.declared.module.Module.{Module}
-use Rattle.td_ir.specs.declared.tables.Parts.{Parts}
+use Rattle.td_lower_blocks.specs.Imports.{TypeDef, Module, Parts}
 use Rattle.td_ir.specs.Tables.{routine_of, entry_of, first_of}
 use Rattle.td_lower_blocks.specs.Block.{Stands, size}
 use Rattle.td_lower_blocks.specs.Lowered.{block_of}

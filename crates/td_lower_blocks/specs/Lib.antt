@@ -1,3 +1,4 @@
+pub mod Imports
 pub mod Block
 pub mod Constructs
 pub mod Lowered

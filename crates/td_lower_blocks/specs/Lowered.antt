@@ -7,22 +7,9 @@ use Rattle.td_num.specs.declared.number.ByteOrder.{ByteOrder}
 use Rattle.td_num.specs.declared.number.ByteOrder.TheVariants.{LittleEndian, BigEndian}
 use Rattle.td_core.specs.declared.expressions.Relation.{Relation}
 use Rattle.td_core.specs.declared.expressions.Relation.TheVariants.{Equal, NotEqual, Less, LessEqual, Greater, GreaterEqual}
-use Rattle.td_core.specs.declared.expressions.Binary.{Binary as Operator}
-use Rattle.td_core.specs.declared.expressions.Binary.TheVariants.{Plus, Minus, Times, Over, Modulo, BitAnd, BitOr, BitXor, ShiftLeft as ShiftLeftOp, ShiftRight}
+use Rattle.td_lower_blocks.specs.Imports.{Binary as Operator, Add, Subtract, Multiply, Divide, Remainder, BitAnd, BitOr, BitXor, ShiftLeft as ShiftLeftOp, ShiftRight, Element, Number, Listed, Named, Unit as UnitElement, Rest, Zeros, Extent, Once, Filling, OnceFilling, UpToZero, Bits as BitField, CopyOut, Part as PartDef, Field as FieldDef, Case as CaseDef, Body as BodyDef, Struct as StructDef, Casetype as CasetypeDef, TypeDef}
 use Rattle.td_core.specs.Types.{limit, type_of}
 use Rattle.td_core.specs.Term.{Term, number, name, complement, negation, compute, compare, both, either, choice, range_okay, Deed, done, set, keep, fork, answer, give_up}
-use Rattle.td_core.specs.declared.module.Element.{Element}
-use Rattle.td_core.specs.declared.module.Element.TheVariants.{Number, Listed, Named, Unit as UnitElement, Rest, Zeros}
-use Rattle.td_core.specs.declared.module.Extent.{Extent}
-use Rattle.td_core.specs.declared.module.Extent.TheVariants.{Once, Filling, OnceFilling, UpToZero}
-use Rattle.td_core.specs.declared.module.Bits.{Bits as BitField}
-use Rattle.td_core.specs.declared.module.CopyOut.{CopyOut}
-use Rattle.td_core.specs.declared.module.Part.{Part as PartDef}
-use Rattle.td_core.specs.declared.module.Field.{Field as FieldDef}
-use Rattle.td_core.specs.declared.module.Case.{Case as CaseDef}
-use Rattle.td_core.specs.declared.module.Body.{Body as BodyDef}
-use Rattle.td_core.specs.declared.module.Body.TheVariants.{Struct as StructDef, Casetype as CasetypeDef}
-use Rattle.td_core.specs.declared.module.TypeDef.{TypeDef}
 use Rattle.td_expr.specs.Same.{constant_of}
 use Rattle.td_meaning.specs.Naming.{is_needed}
 use Rattle.td_meaning.specs.Meaning.{divides, equals}
@@ -33,11 +20,11 @@ use Rattle.td_lower_blocks.specs.Constructs.{Expr, Lit, Slot, Binary, Not, Compl
 -- Expressions
 
 abbrev pub computed_of : Operator → ℕ → Expr → Expr → Expr
-computed_of Plus mask a b = Binary 0 a b
-computed_of Minus mask a b = Binary 1 a b
-computed_of Times mask a b = Binary 2 a b
-computed_of Over mask a b = Binary 3 a b
-computed_of Modulo mask a b = Binary 4 a b
+computed_of Add mask a b = Binary 0 a b
+computed_of Subtract mask a b = Binary 1 a b
+computed_of Multiply mask a b = Binary 2 a b
+computed_of Divide mask a b = Binary 3 a b
+computed_of Remainder mask a b = Binary 4 a b
 computed_of BitAnd mask a b = Binary 5 a b
 computed_of BitOr mask a b = Binary 6 a b
 computed_of BitXor mask a b = Binary 7 a b

@@ -3,20 +3,10 @@ use Rattle.std.specs.Prelude.{◌≡◌, ℕ, suc, ◌+◌, ◌*◌, ◌<◌, sl
 use Rattle.td_num.specs.Lists.{is_among}
 use Rattle.td_core.specs.Term.{Term}
 use Rattle.td_core.specs.declared.module.NameId.{NameId}
-use Rattle.td_core.specs.declared.module.CopyOut.{CopyOut}
-use Rattle.td_core.specs.declared.module.Part.{Part}
-use Rattle.td_core.specs.declared.module.Field.{Field}
-use Rattle.td_core.specs.declared.module.Case.{Case}
-use Rattle.td_core.specs.declared.module.Body.{Body}
-use Rattle.td_core.specs.declared.module.Body.TheVariants.{Struct, Casetype}
-use Rattle.td_core.specs.declared.module.TypeDef.{TypeDef}
-use Rattle.td_core.specs.declared.module.Module.{Module}
-use Rattle.td_core.specs.declared.module.Element.{Element}
-use Rattle.td_core.specs.declared.module.Element.TheVariants.{Number, Listed, Named, Unit as UnitElement, Rest, Zeros}
+use Rattle.td_lower_blocks.specs.Imports.{CopyOut, Part, Field, Case, Body, Struct, Casetype, TypeDef, Module, Element, Number, Listed, Named, Unit as UnitElement, Rest, Zeros, Parts}
 use Rattle.td_core.specs.declared.outcome.Spot.{Spot}
 use Rattle.td_core.specs.declared.outcome.Spot.TheVariants.{Field as AtField, Where as AtWhere, Switch as AtSwitch}
 use Rattle.td_meaning.specs.Meaning.{first_name, values_of}
-use Rattle.td_ir.specs.declared.tables.Parts.{Parts}
 use Rattle.td_ir.specs.Tables.{routine_of, set_of, cells_by}
 use Rattle.td_ir.specs.Run.{place_of_site}
 use Rattle.td_lower_blocks.specs.Lowered.{parts_in, first_site}

@@ -1,7 +1,7 @@
 -- What expressions need and write, operator by operator.
 use Rattle.std.proofs.Common.{◌≡◌, ℕ, suc, ◌+◌, ◌≤◌, max, true, false, refl, arith}
 use Rattle.td_core.specs.declared.expressions.Binary.{Binary}
-use Rattle.td_core.specs.declared.expressions.Binary.TheVariants.{Plus, Minus, Times, Over, Modulo, BitAnd, BitOr, BitXor, ShiftLeft, ShiftRight}
+use Rattle.td_core.specs.declared.expressions.Binary.TheVariants.{Add, Subtract, Multiply, Divide, Remainder, BitAnd, BitOr, BitXor, ShiftLeft, ShiftRight}
 use Rattle.td_core.specs.declared.expressions.Relation.{Relation}
 use Rattle.td_core.specs.declared.expressions.Relation.TheVariants.{Equal, NotEqual, Less, LessEqual, Greater, GreaterEqual}
 use Rattle.td_ir.specs.declared.instructions.Instr.TheVariants as i
@@ -13,11 +13,11 @@ use Rattle.td_lower_blocks.specs.Tops.{top, deed_top}
 use Rattle.td_lower_emit.specs.Emission.{operator_then, relation_number, is_turned}
 
 pub computed_value : (op : Binary) (mask t : ℕ) (a b : Expr) (k : Block) → value t (computed_of op mask a b) k ≡ value t a (value (t + 1) b (operator_then op mask t k))
-computed_value Plus mask t a b k = refl
-computed_value Minus mask t a b k = refl
-computed_value Times mask t a b k = refl
-computed_value Over mask t a b k = refl
-computed_value Modulo mask t a b k = refl
+computed_value Add mask t a b k = refl
+computed_value Subtract mask t a b k = refl
+computed_value Multiply mask t a b k = refl
+computed_value Divide mask t a b k = refl
+computed_value Remainder mask t a b k = refl
 computed_value BitAnd mask t a b k = refl
 computed_value BitOr mask t a b k = refl
 computed_value BitXor mask t a b k = refl

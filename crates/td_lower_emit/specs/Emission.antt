@@ -3,7 +3,7 @@ use Rattle.std.specs.Prelude.{◌≡◌, ℕ, ◌+◌, Bool, true, false, List, 
 use Rattle.td_ir.specs.declared.instructions.Instr.{Instr}
 use Rattle.td_ir.specs.declared.instructions.Instr.TheVariants as i
 use Rattle.td_core.specs.declared.expressions.Binary.{Binary}
-use Rattle.td_core.specs.declared.expressions.Binary.TheVariants.{Plus, Minus, Times, Over, Modulo, BitAnd, BitOr, BitXor, ShiftLeft, ShiftRight}
+use Rattle.td_core.specs.declared.expressions.Binary.TheVariants.{Add, Subtract, Multiply, Divide, Remainder, BitAnd, BitOr, BitXor, ShiftLeft, ShiftRight}
 use Rattle.td_core.specs.declared.expressions.Relation.{Relation}
 use Rattle.td_core.specs.declared.expressions.Relation.TheVariants.{Equal, NotEqual, Less, LessEqual, Greater, GreaterEqual}
 use Rattle.td_lower_blocks.specs.Block.{Block, Done, Then, Guard, code}
@@ -41,11 +41,11 @@ GoesOn true before after f = WritesSteps before after f
 GoesOn false before after f = EndsSteps before after f
 
 abbrev pub operator_number : Binary → ℕ
-operator_number Plus = 0
-operator_number Minus = 1
-operator_number Times = 2
-operator_number Over = 3
-operator_number Modulo = 4
+operator_number Add = 0
+operator_number Subtract = 1
+operator_number Multiply = 2
+operator_number Divide = 3
+operator_number Remainder = 4
 operator_number BitAnd = 5
 operator_number BitOr = 6
 operator_number BitXor = 7

@@ -18,7 +18,7 @@ use td_ir::instructions::Instr;
 
 /// Writes a test: goes on where an expression's value isn't 0, else fails. Register `t` and those above it are used.
 /// `AllocError`: there was no memory for it.
-pub fn write_test(
+pub(crate) fn write_test(
     code: &mut Writer,
     t: u16,
     e: &CoreExpr,

@@ -223,7 +223,7 @@ fn write_up_to_zero(
 
 /// Writes the code of what stands in a field, with its number in register `slot` where it is read; `t` is the unit's, and
 /// those above it are used. False: nothing behind it is reached. `AllocError`: there was no memory for it.
-pub fn write_shape(
+pub(crate) fn write_shape(
     code: &mut Writer,
     t: u16,
     needed: bool,
@@ -249,7 +249,7 @@ pub fn write_shape(
 }
 
 /// The same of a field, whose bytes may be copied.
-pub fn write_content(
+pub(crate) fn write_content(
     code: &mut Writer,
     t: u16,
     needed: bool,

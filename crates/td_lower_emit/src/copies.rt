@@ -51,7 +51,7 @@ fn write_copied_constant(
 
 /// Writes the copy of so many bytes into a buffer, with registers above `t`. False: nothing behind it is reached.
 /// `AllocError`: there was no memory for it.
-pub fn write_copied(
+pub(crate) fn write_copied(
     code: &mut Writer,
     t: u16,
     site: u32,

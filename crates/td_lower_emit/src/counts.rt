@@ -6,7 +6,7 @@ ghost use Rattle.td_lower_blocks.specs.Lowered.{parts_in, cases_parts, default_p
 use td_core::module::{Body, Case, Field, TypeDef};
 
 /// How many parts fields have.
-pub fn count_parts(fields: &[Field]) -> u32
+pub(crate) fn count_parts(fields: &[Field]) -> u32
     requires { parts_in fields.now < 2 ^ 32 }
     ensures { result ≡ parts_in fields.now }
 {

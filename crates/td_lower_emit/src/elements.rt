@@ -154,7 +154,7 @@ pub fn write_each(
 }
 
 /// Writes one element of a window; register `u` is used. `AllocError`: there was no memory for it.
-pub fn write_one(
+pub(crate) fn write_one(
     code: &mut Writer,
     t: u16,
     u: u16,
@@ -191,7 +191,7 @@ pub fn write_one(
 }
 
 /// Writes elements up to the end of a window of constant size, where they fit it. `AllocError`: there was no memory for it.
-pub fn write_each_if(
+pub(crate) fn write_each_if(
     code: &mut Writer,
     t: u16,
     u: u16,
@@ -214,7 +214,7 @@ pub fn write_each_if(
 }
 
 /// Writes one element of a window of constant size, where it fits it. `AllocError`: there was no memory for it.
-pub fn write_one_if(
+pub(crate) fn write_one_if(
     code: &mut Writer,
     t: u16,
     u: u16,

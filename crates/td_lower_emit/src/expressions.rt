@@ -20,11 +20,11 @@ fn operator_code(op: Binary) -> u8
     ensures { result ≡ operator_number op }
 {
     match op {
-        Binary::Plus => ADD,
-        Binary::Minus => SUB,
-        Binary::Times => MUL,
-        Binary::Over => DIV,
-        Binary::Modulo => REM,
+        Binary::Add => ADD,
+        Binary::Subtract => SUB,
+        Binary::Multiply => MUL,
+        Binary::Divide => DIV,
+        Binary::Remainder => REM,
         Binary::BitAnd => AND,
         Binary::BitOr => OR,
         Binary::BitXor => XOR,
@@ -104,7 +104,7 @@ fn is_turned(relation: Relation) -> bool
 }
 
 /// Sets the jump at a place, which passes over what was written behind it where a register isn't 0 (true) or is 0.
-pub fn land(code: &mut Writer, place: u32, when: bool, test: u16)
+pub(crate) fn land(code: &mut Writer, place: u32, when: bool, test: u16)
     requires { place < length code.old }
     ensures { code.new ≡ slice_set code.old place (guard when test (length code.old)) }
 {

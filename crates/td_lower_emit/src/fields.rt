@@ -20,7 +20,7 @@ use td_ir::instructions::Instr;
 use td_num::number::{ByteOrder, NumberType, byte_count};
 
 /// The arguments of a type that is named; none of any other element.
-pub fn terms_of(element: &Element) -> &[CoreExpr]
+pub(crate) fn terms_of(element: &Element) -> &[CoreExpr]
     ensures { result.now ≡ terms_of element.now }
 {
     match element {
@@ -31,7 +31,7 @@ pub fn terms_of(element: &Element) -> &[CoreExpr]
 }
 
 /// The number of an order of bytes in code.
-pub fn order_code(order: ByteOrder) -> u8
+pub(crate) fn order_code(order: ByteOrder) -> u8
     ensures { result ≡ order_code order }
 {
     match order {
@@ -41,7 +41,7 @@ pub fn order_code(order: ByteOrder) -> u8
 }
 
 /// Writes the code of arguments, the first of which stands in register `t`. `AllocError`: there was no memory for it.
-pub fn write_values(code: &mut Writer, t: u32, args: &[CoreExpr]) -> Result<(), AllocError>
+pub(crate) fn write_values(code: &mut Writer, t: u32, args: &[CoreExpr]) -> Result<(), AllocError>
     requires { terms_top t args.now ≤ 2 ^ 16 }
     ensures { OnOk result (Writes code.old code.new (values t (exprs_of args.now))) }
 {
@@ -55,7 +55,7 @@ pub fn write_values(code: &mut Writer, t: u32, args: &[CoreExpr]) -> Result<(), 
 
 /// Writes the code that reads a number into register `slot`, and fails where it isn't in an enum's set; register `t` is
 /// used. `AllocError`: there was no memory for it.
-pub fn write_listed(
+pub(crate) fn write_listed(
     code: &mut Writer,
     slot: u16,
     base: NumberType,
@@ -88,7 +88,7 @@ pub fn write_listed(
 
 /// Writes the code of an element that stands once, with its number in register `slot` where it is read. The unit is
 /// register `t`. `AllocError`: there was no memory for it.
-pub fn write_once(
+pub(crate) fn write_once(
     code: &mut Writer,
     t: u16,
     needed: bool,
@@ -244,7 +244,7 @@ pub fn write_parts(
 }
 
 /// Whether a field's number is in its register behind it.
-pub fn is_read(element: &Element, extent: &Extent, needed: bool) -> bool
+pub(crate) fn is_read(element: &Element, extent: &Extent, needed: bool) -> bool
     ensures { result ≡ is_read element.now extent.now needed }
 {
     match extent {
@@ -258,7 +258,7 @@ pub fn is_read(element: &Element, extent: &Extent, needed: bool) -> bool
 }
 
 /// The register of a field's number: that of its value in scope, or the unit's where it has bit fields.
-pub fn number_slot(level: u32, t: u16, parts: &[Part]) -> u32
+pub(crate) fn number_slot(level: u32, t: u16, parts: &[Part]) -> u32
     ensures { result ≡ number_slot level t parts.now }
 {
     match parts.first() {

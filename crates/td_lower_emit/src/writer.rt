@@ -62,7 +62,7 @@ impl Writer {
     }
 
     /// Takes back what was written from a place on.
-    pub fn shorten(&mut self, place: u32)
+    pub(crate) fn shorten(&mut self, place: u32)
         requires { place ≤ length self.old }
         ensures { self.new ≡ take place self.old }
     {

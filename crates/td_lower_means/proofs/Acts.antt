@@ -4,11 +4,7 @@ use Rattle.std.proofs.lemmas.List.{get_or-set_same, get_or-set_other, get_or_app
 use Rattle.std.proofs.lemmas.Bool.{or_cases, eqb-true, cases_lt}
 use Rattle.std.proofs.Math.ListN.{length-set}
 use Rattle.td_core.specs.Term.{Term, number, name, complement, negation, compute, compare, both, either, choice, range_okay, Deed, done, set, keep, fork, answer, give_up}
-use Rattle.td_core.specs.declared.outcome.Reason.TheVariants.{Action as ActionFails}
-use Rattle.td_core.specs.declared.expressions.Relation.{Relation}
-use Rattle.td_core.specs.declared.expressions.Relation.TheVariants.{Equal, NotEqual, Less, LessEqual, Greater, GreaterEqual}
-use Rattle.td_core.specs.declared.expressions.Binary.{Binary as Operator}
-use Rattle.td_core.specs.declared.expressions.Binary.TheVariants.{Plus, Minus, Times, Over, Modulo, BitAnd, BitOr, BitXor, ShiftLeft as ShiftLeftOp, ShiftRight}
+use Rattle.td_lower_means.specs.Imports.{Action as ActionFails, Relation, Equal, NotEqual, Less, LessEqual, Greater, GreaterEqual, Binary as Operator, Add, Subtract, Multiply, Divide, Remainder, BitAnd, BitOr, BitXor, ShiftLeft as ShiftLeftOp, ShiftRight, Parts}
 use Rattle.td_expr.specs.Sound.{Sound, Placed}
 use Rattle.td_expr.specs.Value.{truth_of}
 use Rattle.td_expr.specs.Naming.{names, deed_names}
@@ -18,7 +14,6 @@ use Rattle.td_ir.specs.declared.instructions.Instr.TheVariants as i
 use Rattle.td_lower_blocks.specs.Block.{Block, Done, Then, Stop, Leave, Guard}
 use Rattle.td_lower_blocks.specs.Constructs.{Expr, value, acts}
 use Rattle.td_lower_blocks.specs.Placed.{IsExpr, DeedPlaced}
-use Rattle.td_ir.specs.declared.tables.Parts.{Parts}
 use Rattle.td_ir.specs.State.{State, reg}
 use Rattle.td_lower_means.proofs.BlockRun.{Passage, failed, Calling, ran}
 use Rattle.td_lower_blocks.specs.Lowered.{expr_of, action_of, computed_of, compared_of}
@@ -49,11 +44,11 @@ named_low (range_okay c a b) L j p h = elim (or_cases (names j c) (names j a || 
 ]
 
 low_op : (op : Operator) (mask t : ℕ) (a b : Expr) → Low t a → Low t b → Low t (computed_of op mask a b)
-low_op Plus mask t a b p q = (p, q)
-low_op Minus mask t a b p q = (p, q)
-low_op Times mask t a b p q = (p, q)
-low_op Over mask t a b p q = (p, q)
-low_op Modulo mask t a b p q = (p, q)
+low_op Add mask t a b p q = (p, q)
+low_op Subtract mask t a b p q = (p, q)
+low_op Multiply mask t a b p q = (p, q)
+low_op Divide mask t a b p q = (p, q)
+low_op Remainder mask t a b p q = (p, q)
 low_op BitAnd mask t a b p q = (p, q)
 low_op BitOr mask t a b p q = (p, q)
 low_op BitXor mask t a b p q = (p, q)

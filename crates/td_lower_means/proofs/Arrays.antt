@@ -2,24 +2,14 @@
 use Rattle.std.proofs.Common.{◌≡◌, ℕ, zero, suc, ◌+◌, ◌-◌, ◌*◌, ◌/◌, ◌^◌, ◌<◌, ◌≤◌, Bool, true, false, cond, List, [], length, map, refl, sym, ap, ◌∙◌, arith, nat_eq, nat_le, nat_lt, slice_index, slice_set, Option, Some, None, min}
 use Rattle.std.proofs.lemmas.List.{append-nil, get_or-set_same, get_or-set_other}
 use Rattle.std.proofs.Math.ListN.{length-set}
-use Rattle.td_num.specs.declared.number.Width.{Width}
+use Rattle.td_lower_means.specs.Imports.{Width, ByteOrder, LittleEndian, BigEndian, NumberType, NameId, Element, Number, Listed, Named, Unit as UnitElement, Rest, Zeros, CopyOut, Extent, Once, Filling, OnceFilling, UpToZero, NotEnough, ListSize, Parts}
 use Rattle.td_expr.specs.Same.{constant_of}
 use Rattle.td_expr.proofs.Folding.{constant_is}
 use Rattle.td_expr.specs.Value.{natural}
 use Rattle.td_num.specs.Numbers.{places_from, bytes_in, number_at, falling_on, rising_at}
-use Rattle.td_num.specs.declared.number.ByteOrder.{ByteOrder}
-use Rattle.td_num.specs.declared.number.ByteOrder.TheVariants.{LittleEndian, BigEndian}
-use Rattle.td_num.specs.declared.number.NumberType.{NumberType}
 use Rattle.td_num.specs.Lists.{is_among, first_where, looked_at, one_more}
 use Rattle.td_core.specs.Term.{Term}
 use Rattle.td_core.specs.Outcome.{Behavior, Accepted, after_reading, and_then, within, accepted}
-use Rattle.td_core.specs.declared.module.NameId.{NameId}
-use Rattle.td_core.specs.declared.module.Element.{Element}
-use Rattle.td_core.specs.declared.module.Element.TheVariants.{Number, Listed, Named, Unit as UnitElement, Rest, Zeros}
-use Rattle.td_core.specs.declared.module.CopyOut.{CopyOut}
-use Rattle.td_core.specs.declared.module.Extent.{Extent}
-use Rattle.td_core.specs.declared.module.Extent.TheVariants.{Once, Filling, OnceFilling, UpToZero}
-use Rattle.td_core.specs.declared.outcome.Reason.TheVariants.{NotEnough, ListSize}
 use Rattle.td_expr.specs.Sound.{Sound}
 use Rattle.td_expr.specs.Naming.{names}
 use Rattle.td_meaning.specs.Naming.{element_names, extent_names}
@@ -31,7 +21,6 @@ use Rattle.td_ir.specs.declared.instructions.Instr.TheVariants as i
 use Rattle.td_lower_blocks.specs.Block.{Block, Then}
 use Rattle.td_lower_blocks.specs.Constructs.{Steps, steps, value, inner, Inner, CopyAll, ByConstant, Never}
 use Rattle.td_lower_blocks.specs.Placed.{IsExpr, ShapePlaced, CopyPlaced}
-use Rattle.td_ir.specs.declared.tables.Parts.{Parts}
 use Rattle.td_ir.specs.State.{State, registers_from}
 use Rattle.td_lower_means.proofs.BlockRun.{Passage, touching, onwards, if_so, Calling, ran, passage_of, onto}
 use Rattle.td_ir.specs.Flow.{Effect, Goes, Fails, copied, zeroterm_flow}

@@ -1,10 +1,8 @@
 -- What a block does (own rule): the run of code, but for the places of instructions and the count of steps.
 use Rattle.std.specs.Prelude.{ℕ, zero, suc, Bool, true, false, cond, nat_eq, List, [], ◌∷◌, ◌++◌}
-use Rattle.td_core.specs.declared.outcome.Reason.{Reason}
+use Rattle.td_lower_means.specs.Imports.{Reason, Instr, Parts}
 use Rattle.td_core.specs.Outcome.{Behavior, Ending, Accepted, Rejected}
-use Rattle.td_ir.specs.declared.instructions.Instr.{Instr}
 use Rattle.td_ir.specs.declared.instructions.Instr.TheVariants as i
-use Rattle.td_ir.specs.declared.tables.Parts.{Parts}
 use Rattle.td_ir.specs.State.{State, reg, left, Way, Returned, Turned, Failed, Stuck, Exit}
 use Rattle.td_ir.specs.Flow.{Flow, Goes, Fails, Calls, Returns, Loops, Turns, effect}
 use Rattle.td_ir.specs.Run.{frame}

@@ -4,13 +4,11 @@ use Rattle.std.proofs.lemmas.List.{get_or_append_left, length-append, length-rep
 use Rattle.std.proofs.lemmas.Option.{slice_get-get_or}
 use Rattle.std.proofs.lemmas.Bool.{eqb-true, false≢true}
 use Rattle.td_num.specs.Numbers.{places_from}
-use Rattle.td_core.specs.declared.module.TypeDef.{TypeDef}
-use Rattle.td_core.specs.declared.module.Module.{Module}
+use Rattle.td_lower_means.specs.Imports.{TypeDef, Module, Parts}
 use Rattle.td_expr.specs.Sound.{Sound}
 use Rattle.td_meaning.specs.Meaning.{below, pick, entry_place, meaning, definition_meaning}
 use Rattle.td_meaning.specs.Copies.{opened}
 use Rattle.td_meaning.specs.Throughout.{OnDefinition, through_below, pick_through}
-use Rattle.td_ir.specs.declared.tables.Parts.{Parts}
 use Rattle.td_ir.specs.declared.tables.Routine.{Routine}
 use Rattle.td_ir.specs.WellFormed.{IsCode}
 use Rattle.td_ir.specs.Tables.{routine_of, cells_by, lengths_of, first_of, end_of, entry_of}

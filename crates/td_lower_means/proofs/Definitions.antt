@@ -5,12 +5,7 @@ use Rattle.std.proofs.Math.ListN.{length-set}
 use Rattle.td_num.specs.Lists.{is_among}
 use Rattle.td_core.specs.Term.{Term}
 use Rattle.td_core.specs.Outcome.{and_then, within, rejected}
-use Rattle.td_core.specs.declared.module.NameId.{NameId}
-use Rattle.td_core.specs.declared.module.Field.{Field}
-use Rattle.td_core.specs.declared.module.Case.{Case}
-use Rattle.td_core.specs.declared.module.Body.{Body}
-use Rattle.td_core.specs.declared.module.Body.TheVariants.{Struct, Casetype}
-use Rattle.td_core.specs.declared.outcome.Reason.TheVariants.{Constraint, Impossible}
+use Rattle.td_lower_means.specs.Imports.{NameId, Field, Case, Body, Struct, Casetype, Constraint, Impossible, Parts}
 use Rattle.td_expr.specs.Sound.{Sound}
 use Rattle.td_meaning.specs.Doing.{natural_of, is_true}
 use Rattle.td_meaning.specs.Meaning.{Sense, values_of, demanded, refined, case_for, chosen_meaning, body_meaning, where_place}
@@ -18,7 +13,6 @@ use Rattle.td_meaning.specs.Throughout.{Through, OnEnding, OnOption, OnChosen, O
 use Rattle.td_ir.specs.declared.instructions.Instr.TheVariants as i
 use Rattle.td_lower_blocks.specs.Block.{Block, Stop, Guard}
 use Rattle.td_lower_blocks.specs.Constructs.{steps, cases, body}
-use Rattle.td_ir.specs.declared.tables.Parts.{Parts}
 use Rattle.td_ir.specs.State.{State, registers_from}
 use Rattle.td_lower_means.proofs.BlockRun.{Passage, failed, Calling, ran, passage_of}
 use Rattle.td_ir.specs.Values.{operated, bit}

@@ -3,14 +3,7 @@ use Rattle.std.proofs.Common.{◌≡◌, ℕ, ◌+◌, ◌^◌, ◌<◌, ◌≤�
 use Rattle.std.proofs.lemmas.Bool.{false≢true}
 use Rattle.td_num.specs.Lists.{is_among}
 use Rattle.td_core.specs.Outcome.{Behavior, and_then, within, after_reading}
-use Rattle.td_core.specs.declared.module.NameId.{NameId}
-use Rattle.td_core.specs.declared.module.Bits.{Bits}
-use Rattle.td_core.specs.declared.module.Part.{Part}
-use Rattle.td_core.specs.declared.module.Field.{Field}
-use Rattle.td_core.specs.declared.module.Element.{Element}
-use Rattle.td_core.specs.declared.module.Element.TheVariants.{Number, Listed, Named, Unit as UnitElement, Rest, Zeros}
-use Rattle.td_core.specs.declared.module.Extent.{Extent}
-use Rattle.td_core.specs.declared.module.Extent.TheVariants.{Once, Filling, OnceFilling, UpToZero}
+use Rattle.td_lower_means.specs.Imports.{NameId, Bits, Part, Field, Element, Number, Listed, Named, Unit as UnitElement, Rest, Zeros, Extent, Once, Filling, OnceFilling, UpToZero, Parts}
 use Rattle.td_expr.specs.Sound.{Sound}
 use Rattle.td_meaning.specs.Naming.{element_names, extent_names, parts_name, field_names, fields_name, is_needed}
 use Rattle.td_meaning.specs.Meaning.{Sense, values_of, content_meaning, field_number, number_places, field_place, first_name, parts_meaning, bits_of, extended, fields_meaning}
@@ -18,7 +11,6 @@ use Rattle.td_meaning.specs.Throughout.{Through, OnEnding, OnParts, OnFields}
 use Rattle.td_lower_blocks.specs.Block.{Block}
 use Rattle.td_lower_blocks.specs.Constructs.{steps}
 use Rattle.td_lower_blocks.specs.Placed.{PartsPlaced, FieldsPlaced}
-use Rattle.td_ir.specs.declared.tables.Parts.{Parts}
 use Rattle.td_ir.specs.State.{State, registers_from}
 use Rattle.td_lower_means.proofs.BlockRun.{Passage, touching, Calling, ran, passage_of, onto}
 use Rattle.td_lower_blocks.specs.Lowered.{part_slot, number_slot, is_read, parts_steps, fields_steps}

@@ -1,8 +1,7 @@
 -- The code of an array of elements that fill its bytes.
 use Rattle.std.proofs.Common.{◌≡◌, ℕ, zero, suc, ◌+◌, ◌-◌, ◌*◌, ◌/◌, ◌%◌, ◌^◌, ◌<◌, ◌≤◌, Bool, true, false, cond, List, length, map, refl, sym, ap, ◌∙◌, subst, arith, nat_eq, nat_le, nat_lt, slice_index, Option, Some, None}
 use Rattle.std.proofs.lemmas.Bool.{eqb-true, leb-true}
-use Rattle.td_num.specs.declared.number.Width.{Width}
-use Rattle.td_num.specs.declared.number.Width.TheVariants.{One, Two, Four, Eight}
+use Rattle.td_lower_means.specs.Imports.{Width, One, Two, Four, Eight, NameId, Element, Number, Listed, Named, Unit as UnitElement, Rest, Zeros, Filling, NotEnough, ListSize, Parts}
 use Rattle.td_expr.specs.Same.{constant_of}
 use Rattle.td_expr.proofs.Folding.{constant_is}
 use Rattle.td_expr.specs.Value.{natural}
@@ -10,11 +9,6 @@ use Rattle.td_num.specs.Numbers.{bytes_in}
 use Rattle.td_num.specs.Lists.{is_among}
 use Rattle.td_core.specs.Term.{Term}
 use Rattle.td_core.specs.Outcome.{Behavior, Accepted, and_then, within, accepted}
-use Rattle.td_core.specs.declared.module.NameId.{NameId}
-use Rattle.td_core.specs.declared.module.Element.{Element}
-use Rattle.td_core.specs.declared.module.Element.TheVariants.{Number, Listed, Named, Unit as UnitElement, Rest, Zeros}
-use Rattle.td_core.specs.declared.module.Extent.TheVariants.{Filling}
-use Rattle.td_core.specs.declared.outcome.Reason.TheVariants.{NotEnough, ListSize}
 use Rattle.td_expr.specs.Sound.{Sound}
 use Rattle.td_expr.specs.Naming.{names}
 use Rattle.td_meaning.specs.Naming.{some_name, element_names}
@@ -25,7 +19,6 @@ use Rattle.td_ir.specs.declared.instructions.Instr.TheVariants as i
 use Rattle.td_lower_blocks.specs.Block.{Block, Done, Window}
 use Rattle.td_lower_blocks.specs.Constructs.{Steps, steps, value, values, inner, Inner, Uneven, ByConstant, Never, listed}
 use Rattle.td_lower_blocks.specs.Placed.{IsExpr, ArgsPlaced, ElementsPlaced, SizePlaced}
-use Rattle.td_ir.specs.declared.tables.Parts.{Parts}
 use Rattle.td_ir.specs.State.{State, Turned, registers_from}
 use Rattle.td_lower_means.proofs.BlockRun.{Passage, plainly, onwards, if_so, turns, again, back, Calling, ran, passage_of, onto}
 use Rattle.td_ir.specs.Flow.{where_so}

@@ -2,14 +2,10 @@
 use Rattle.std.proofs.Common.{◌≡◌, ℕ, zero, suc, ◌*◌, ◌^◌, ◌<◌, ◌≤◌, List, [], ◌∷◌, length, refl, sym, ap, ◌∙◌, subst, arith, slice_index, slice_index_or, slice_get, Some, None}
 use Rattle.std.proofs.lemmas.Option.{slice_get-get_or}
 use Rattle.td_num.specs.Numbers.{bytes_in}
-use Rattle.td_num.specs.declared.number.Width.{Width}
-use Rattle.td_num.specs.declared.number.Width.TheVariants.{One, Two, Four, Eight}
-use Rattle.td_core.specs.declared.module.Param.{Param}
+use Rattle.td_lower_means.specs.Imports.{Width, One, Two, Four, Eight, Param, Struct, TypeDef}
 use Rattle.td_core.specs.declared.module.Cell.{Cell}
 use Rattle.td_core.specs.declared.module.CellKind.{CellKind}
 use Rattle.td_core.specs.declared.module.CellKind.TheVariants.{Number, Pointer}
-use Rattle.td_core.specs.declared.module.Body.TheVariants.{Struct}
-use Rattle.td_core.specs.declared.module.TypeDef.{TypeDef}
 use Rattle.td_core.specs.Entries.{definition_at, entry_definition}
 use Rattle.td_core.specs.Formed.{AllFit, scalar_of, whole, cell_bound, param_bounds, cell_bounds, params_at, cells_at}
 use Rattle.td_ir.specs.Tables.{entry_of}

@@ -1,6 +1,6 @@
 -- Blocks of the language have the form that runs in places.
 use Rattle.std.proofs.Common.{ℕ, ◌+◌, Bool, true, false, List, [], ◌∷◌, refl}
-use Rattle.td_core.specs.declared.module.TypeDef.{TypeDef}
+use Rattle.td_lower_means.specs.Imports.{TypeDef}
 use Rattle.std.specs.Prelude.{Option, Some, None}
 use Rattle.td_lower_blocks.specs.Block.{Block, Done, Leave, Ends}
 use Rattle.td_lower_blocks.specs.Constructs.{Expr, Lit, Slot, Binary, Not, Complement, ShiftLeft, Both, Either, Choice, Range, value, values, tested, acts, Action, Finish, Assign, Read, If, Return, Abort, Steps, End, Start, Place, Skipped, Number, Listed, Part, Test, Act, Named, AllBytes, AllZeros, ZeroEnd, Copied, Never, Arguments, BySize, ByConstant, Inner, Nothing, Evenly, Exactly, Uneven, All, Zeroes, OneCall, OneListed, EachCall, EachListed, CopyAll, inner, steps, Cases, Case, Default, NoDefault, cases, Body, Struct, Casetype, Where, body}

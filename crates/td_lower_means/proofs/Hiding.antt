@@ -6,14 +6,7 @@ use Rattle.std.proofs.lemmas.Bool.{or_cases, eqb-true, false≢true}
 use Rattle.td_num.specs.Lists.{Each}
 use Rattle.td_core.specs.Term.{Term, number, name, complement, negation, compute, compare, both, either, choice, range_okay, Deed, done, set, keep, fork, answer, give_up}
 use Rattle.td_core.specs.declared.expressions.Scalar.TheVariants as scalar
-use Rattle.td_core.specs.declared.module.Element.{Element}
-use Rattle.td_core.specs.declared.module.Element.TheVariants.{Number, Listed, Named, Unit as UnitElement, Rest, Zeros}
-use Rattle.td_core.specs.declared.module.Extent.{Extent}
-use Rattle.td_core.specs.declared.module.Extent.TheVariants.{Once, Filling, OnceFilling, UpToZero}
-use Rattle.td_core.specs.declared.module.Bits.{Bits}
-use Rattle.td_core.specs.declared.module.Part.{Part}
-use Rattle.td_core.specs.declared.module.Field.{Field}
-use Rattle.td_core.specs.declared.module.TypeDef.{TypeDef}
+use Rattle.td_lower_means.specs.Imports.{Element, Number, Listed, Named, Unit as UnitElement, Rest, Zeros, Extent, Once, Filling, OnceFilling, UpToZero, Bits, Part, Field, TypeDef}
 use Rattle.td_core.specs.Formed.{Bound, IsScoped, IsOptionScoped, IsDeedFormed, IsActionFormed, given, whole, part_bound, parts_scope, ArePartsFormed, AreArgsFormed, params_at, IsElementFormed, IsExtentFormed, AreFieldsFormed}
 use Rattle.td_expr.specs.Naming.{names, deed_names}
 use Rattle.td_meaning.specs.Naming.{some_name, in_option, part_names, parts_name, element_names, extent_names, field_names, fields_name, is_needed}

@@ -1,9 +1,7 @@
 -- A block that stands in code does there what the block does.
 use Rattle.std.proofs.Common.{◌≡◌, ℕ, zero, suc, ◌+◌, ◌<◌, ◌≤◌, Bool, true, false, cond, List, [], length, refl, ap, ◌∙◌, arith, nat_eq, Option, Some, None}
 use Rattle.std.proofs.lemmas.Bool.{false≢true}
-use Rattle.td_core.specs.declared.outcome.Reason.{Reason}
-use Rattle.td_ir.specs.declared.tables.Parts.{Parts}
-use Rattle.td_ir.specs.declared.instructions.Instr.{Instr}
+use Rattle.td_lower_means.specs.Imports.{Reason, Parts, Instr}
 use Rattle.td_ir.specs.declared.instructions.Instr.TheVariants as i
 use Rattle.td_ir.specs.Tables.{instruction_of, end_of}
 use Rattle.td_ir.specs.State.{State, reg, left, Way, Returned, Turned, Failed, Stuck, Exit}

@@ -1,13 +1,10 @@
 -- What Zeros and Zeroterm look at, in the words of the meaning.
 use Rattle.std.proofs.Common.{◌≡◌, ℕ, zero, suc, ◌+◌, ◌*◌, ◌/◌, Bool, true, false, cond, List, [], ◌∷◌, refl, ap, ◌∙◌, arith, nat_eq, min, Option, Some}
 use Rattle.td_num.specs.Numbers.{bytes_in, rising_at, places_from}
-use Rattle.td_num.specs.declared.number.NumberType.{NumberType}
-use Rattle.td_num.specs.declared.number.Width.{Width}
-use Rattle.td_num.specs.declared.number.ByteOrder.TheVariants.{LittleEndian}
+use Rattle.td_lower_means.specs.Imports.{NumberType, Width, LittleEndian, Parts}
 use Rattle.td_num.specs.Lists.{one_more, first_where, looked_at}
 use Rattle.td_meaning.specs.Meaning.{numbers_at, run_of, is_nonzero, byte_type}
 use Rattle.td_ir.specs.declared.instructions.Instr.TheVariants as i
-use Rattle.td_ir.specs.declared.tables.Parts.{Parts}
 use Rattle.td_ir.specs.State.{State, reg, left}
 use Rattle.td_ir.specs.Values as values
 use Rattle.td_ir.specs.Flow.{zeros_flow, zeroterm_flow}

@@ -3,7 +3,7 @@ use Rattle.std.proofs.Common.{◌≡◌, ℕ, List, ◌++◌, refl, ap}
 use Rattle.std.proofs.lemmas.List.{append_assoc, append-nil}
 use Rattle.td_core.specs.Outcome.{Behavior, Ending, Accepted, Rejected, FramePlace, and_then, onward, after_reading, within}
 use Rattle.td_meaning.specs.Throughout.{OnEnding}
-use Rattle.td_ir.specs.declared.tables.Parts.{Parts}
+use Rattle.td_lower_means.specs.Imports.{Parts}
 use Rattle.td_ir.specs.State.{State, Turned}
 use Rattle.td_lower_means.proofs.BlockRun.{Passage, touching, plainly, back, backward, again, passage_of, onto, onto_ending}
 use Rattle.td_lower_means.specs.CodeRun.{way_of}

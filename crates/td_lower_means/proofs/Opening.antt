@@ -3,11 +3,9 @@ use Rattle.std.proofs.Common.{◌≡◌, ℕ, ◌*◌, ◌<◌, List, ◌++◌, 
 use Rattle.std.proofs.lemmas.List.{length-map}
 use Rattle.std.proofs.lemmas.Option.{slice_get-get_or}
 use Rattle.td_num.proofs.Lists.{got}
-use Rattle.td_core.specs.declared.module.Module.{Module}
-use Rattle.td_core.specs.declared.module.Entry.{Entry}
+use Rattle.td_lower_means.specs.Imports.{Module, Entry, Parts}
 use Rattle.td_core.specs.Entries.{definition_at, entry_definition}
 use Rattle.td_meaning.specs.Copies.{buffers_at, opened}
-use Rattle.td_ir.specs.declared.tables.Parts.{Parts}
 use Rattle.td_ir.specs.WellFormed.{IsCode}
 use Rattle.td_ir.specs.Tables.{routine_of, entry_of}
 use Rattle.td_ir.specs.Entries.{buffers_of, opened_by}

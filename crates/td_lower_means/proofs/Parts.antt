@@ -5,11 +5,7 @@ use Rattle.std.proofs.lemmas.Bool.{or_cases, false≢true}
 use Rattle.std.proofs.Math.ListN.{length-set}
 use Rattle.td_core.specs.Term.{Term, Deed}
 use Rattle.td_core.specs.Outcome.{Behavior, Accepted, FramePlace, and_then, onward, within, ending_within}
-use Rattle.td_core.specs.declared.module.NameId.{NameId}
-use Rattle.td_core.specs.declared.module.Bits.{Bits}
-use Rattle.td_core.specs.declared.module.Part.{Part}
-use Rattle.td_core.specs.declared.module.Field.{Field}
-use Rattle.td_core.specs.declared.outcome.Reason.TheVariants.{Constraint, Action as ActionFails}
+use Rattle.td_lower_means.specs.Imports.{NameId, Bits, Part, Field, Constraint, Action as ActionFails, Parts}
 use Rattle.td_expr.specs.Sound.{Sound}
 use Rattle.td_expr.specs.Naming.{names, deed_names}
 use Rattle.td_meaning.specs.Naming.{in_option, part_names, parts_name, fields_name, is_needed}
@@ -20,7 +16,6 @@ use Rattle.td_ir.specs.declared.instructions.Instr.TheVariants as i
 use Rattle.td_lower_blocks.specs.Block.{Block, Done, Stop, Guard}
 use Rattle.td_lower_blocks.specs.Constructs.{Steps, steps, value}
 use Rattle.td_lower_blocks.specs.Placed.{DeedPlaced, OptionExpr, OptionDeed, PartsPlaced, HasBits, AllBits, AloneFrom, Alone}
-use Rattle.td_ir.specs.declared.tables.Parts.{Parts}
 use Rattle.td_ir.specs.State.{State, reg}
 use Rattle.td_lower_means.proofs.BlockRun.{Passage, failed, Calling, ran, onto}
 use Rattle.td_lower_blocks.specs.Lowered.{expr_of, part_slot, bits_step, test_step, action_step, when, parts_steps}

@@ -6,7 +6,7 @@ use Rattle.td_ir.specs.declared.instructions.Instr.TheVariants as i
 use Rattle.td_lower_blocks.specs.Block.{Block, Done, Then, Leave, Guard, Scope}
 use Rattle.td_lower_blocks.specs.Constructs.{Expr, Lit, Slot, Binary, Not, Complement, ShiftLeft, Both, Either, Choice, Range, value}
 use Rattle.td_lower_blocks.specs.Placed.{Reaches}
-use Rattle.td_ir.specs.declared.tables.Parts.{Parts}
+use Rattle.td_lower_means.specs.Imports.{Parts}
 use Rattle.td_ir.specs.State.{State, reg}
 use Rattle.td_lower_means.proofs.BlockRun.{Passage, Calling, ran}
 use Rattle.td_ir.specs.Values.{operated}

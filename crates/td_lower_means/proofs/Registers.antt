@@ -1,10 +1,7 @@
 -- Expressions have registers enough, and name what is in scope.
 use Rattle.std.proofs.Common.{◌≡◌, ℕ, ◌+◌, ◌<◌, ◌≤◌, Bool, List, length, max, subst, arith}
 use Rattle.std.proofs.Math.Nat.{le-max_left, le-max_right}
-use Rattle.td_core.specs.declared.expressions.Relation.{Relation}
-use Rattle.td_core.specs.declared.expressions.Relation.TheVariants.{Equal, NotEqual, Less, LessEqual, Greater, GreaterEqual}
-use Rattle.td_core.specs.declared.expressions.Binary.{Binary as Operator}
-use Rattle.td_core.specs.declared.expressions.Binary.TheVariants.{Plus, Minus, Times, Over, Modulo, BitAnd, BitOr, BitXor, ShiftLeft as ShiftLeftOp, ShiftRight}
+use Rattle.td_lower_means.specs.Imports.{Relation, Equal, NotEqual, Less, LessEqual, Greater, GreaterEqual, Binary as Operator, Add, Subtract, Multiply, Divide, Remainder, BitAnd, BitOr, BitXor, ShiftLeft as ShiftLeftOp, ShiftRight}
 use Rattle.td_core.specs.Term.{Term, number, name, complement, negation, compute, compare, both, either, choice, range_okay}
 use Rattle.td_core.specs.Formed.{Bound, IsScoped}
 use Rattle.td_core.specs.WellFormed.{HasSorts, IsSorted}
@@ -35,11 +32,11 @@ Known (Choice c a b) = Known c × (Known a × Known b)
 Known (Range size offset access) = Known size × (Known offset × Known access)
 
 known_op : (op : Operator) (mask : ℕ) (a b : Expr) → Known a → Known b → Known (computed_of op mask a b)
-known_op Plus mask a b p q = (omega arith, (p, q))
-known_op Minus mask a b p q = (omega arith, (p, q))
-known_op Times mask a b p q = (omega arith, (p, q))
-known_op Over mask a b p q = (omega arith, (p, q))
-known_op Modulo mask a b p q = (omega arith, (p, q))
+known_op Add mask a b p q = (omega arith, (p, q))
+known_op Subtract mask a b p q = (omega arith, (p, q))
+known_op Multiply mask a b p q = (omega arith, (p, q))
+known_op Divide mask a b p q = (omega arith, (p, q))
+known_op Remainder mask a b p q = (omega arith, (p, q))
 known_op BitAnd mask a b p q = (omega arith, (p, q))
 known_op BitOr mask a b p q = (omega arith, (p, q))
 known_op BitXor mask a b p q = (omega arith, (p, q))

@@ -3,17 +3,10 @@ use Rattle.std.proofs.Common.{◌≡◌, ℕ, zero, suc, ◌+◌, ◌-◌, ◌^�
 use Rattle.std.proofs.lemmas.List.{get_or-set_same, get_or-set_other}
 use Rattle.std.proofs.Math.ListN.{length-set}
 use Rattle.td_num.specs.Numbers.{bytes_in, ordered_at, number_at, places_from}
-use Rattle.td_num.specs.declared.number.NumberType.{NumberType}
-use Rattle.td_num.specs.declared.number.ByteOrder.{ByteOrder}
-use Rattle.td_num.specs.declared.number.ByteOrder.TheVariants.{LittleEndian, BigEndian}
+use Rattle.td_lower_means.specs.Imports.{NumberType, ByteOrder, LittleEndian, BigEndian, NameId, Element, Number, Listed, Named, Unit as UnitElement, Rest, Zeros, Once, NotEnough, Constraint, Parts}
 use Rattle.td_num.specs.Lists.{is_among, first_where, looked_at}
 use Rattle.td_core.specs.Term.{Term}
 use Rattle.td_core.specs.Outcome.{Behavior, Ending, Accepted, Rejected, and_then, within, after_reading}
-use Rattle.td_core.specs.declared.module.NameId.{NameId}
-use Rattle.td_core.specs.declared.module.Element.{Element}
-use Rattle.td_core.specs.declared.module.Element.TheVariants.{Number, Listed, Named, Unit as UnitElement, Rest, Zeros}
-use Rattle.td_core.specs.declared.module.Extent.TheVariants.{Once}
-use Rattle.td_core.specs.declared.outcome.Reason.TheVariants.{NotEnough, Constraint}
 use Rattle.td_expr.specs.Sound.{Sound}
 use Rattle.td_expr.specs.Naming.{names}
 use Rattle.td_meaning.specs.Naming.{some_name, element_names}
@@ -24,7 +17,6 @@ use Rattle.td_ir.specs.declared.instructions.Instr.TheVariants as i
 use Rattle.td_lower_blocks.specs.Block.{Block, Then, Stop, Guard}
 use Rattle.td_lower_blocks.specs.Constructs.{Steps, steps, values, listed}
 use Rattle.td_lower_blocks.specs.Placed.{ArgsPlaced, ElementPlaced}
-use Rattle.td_ir.specs.declared.tables.Parts.{Parts}
 use Rattle.td_ir.specs.State.{State, registers_from}
 use Rattle.td_lower_means.proofs.BlockRun.{Passage, touching, failed, onwards, if_so, back, backward, Calling, ran, passage_of, onto}
 use Rattle.td_lower_means.specs.CodeRun.{way_of}

@@ -3,7 +3,7 @@ use Rattle.std.proofs.Common.{◌≡◌, ℕ, suc, ◌+◌, ◌-◌, ◌^◌, �
 use Rattle.std.proofs.lemmas.List.{get_or-set_same, get_or-set_other}
 use Rattle.std.proofs.Math.ListN.{length-set}
 use Rattle.std.proofs.lemmas.Bool.{eqb-true, leb-true}
-use Rattle.td_num.specs.declared.number.Width.{Width}
+use Rattle.td_lower_means.specs.Imports.{Width, NameId, Element, Number, Listed, Named, Unit as UnitElement, Rest, Zeros, OnceFilling, NotEnough, ListSize, Parts}
 use Rattle.td_expr.specs.Same.{constant_of}
 use Rattle.td_expr.proofs.Folding.{constant_is}
 use Rattle.td_expr.specs.Value.{natural}
@@ -11,11 +11,6 @@ use Rattle.td_num.specs.Numbers.{bytes_in}
 use Rattle.td_num.specs.Lists.{is_among, first_where, looked_at}
 use Rattle.td_core.specs.Term.{Term}
 use Rattle.td_core.specs.Outcome.{Behavior, Accepted, and_then, within, accepted}
-use Rattle.td_core.specs.declared.module.NameId.{NameId}
-use Rattle.td_core.specs.declared.module.Element.{Element}
-use Rattle.td_core.specs.declared.module.Element.TheVariants.{Number, Listed, Named, Unit as UnitElement, Rest, Zeros}
-use Rattle.td_core.specs.declared.module.Extent.TheVariants.{OnceFilling}
-use Rattle.td_core.specs.declared.outcome.Reason.TheVariants.{NotEnough, ListSize}
 use Rattle.td_expr.specs.Sound.{Sound}
 use Rattle.td_expr.specs.Naming.{names}
 use Rattle.td_meaning.specs.Naming.{some_name, element_names}
@@ -26,7 +21,6 @@ use Rattle.td_ir.specs.declared.instructions.Instr.TheVariants as i
 use Rattle.td_lower_blocks.specs.Block.{Block, Done, Window}
 use Rattle.td_lower_blocks.specs.Constructs.{Steps, steps, value, values, inner, Inner, Uneven, ByConstant, Never}
 use Rattle.td_lower_blocks.specs.Placed.{IsExpr, ArgsPlaced, OnePlaced, SizePlaced}
-use Rattle.td_ir.specs.declared.tables.Parts.{Parts}
 use Rattle.td_ir.specs.State.{State, registers_from}
 use Rattle.td_lower_means.proofs.BlockRun.{Passage, touching, onwards, if_so, back, failed, Calling, ran, passage_of, onto}
 use Rattle.td_ir.specs.Values.{bit, operated}

@@ -5,12 +5,9 @@ use Rattle.std.specs.Int.Bits.{or_self}
 use Rattle.std.proofs.lemmas.Nat.{and_mask, xor_block, pow-add}
 use Rattle.std.proofs.lemmas.Bool.{ltb-true, ltb-false, leb-true, leb-false}
 use Rattle.std.proofs.Math.Nat.{mod-eq_of_lt}
-use Rattle.td_core.specs.declared.expressions.Relation.{Relation}
-use Rattle.td_core.specs.declared.expressions.Relation.TheVariants.{Equal, NotEqual, Less, LessEqual, Greater, GreaterEqual}
+use Rattle.td_lower_means.specs.Imports.{Relation, Equal, NotEqual, Less, LessEqual, Greater, GreaterEqual, Binary as Operator, Add, Subtract, Multiply, Divide, Remainder, BitAnd, BitOr, BitXor, ShiftLeft as ShiftLeftOp, ShiftRight}
 use Rattle.td_core.specs.declared.expressions.Scalar.{Scalar}
 use Rattle.td_core.specs.declared.expressions.Scalar.TheVariants.{Truth, Eight, Sixteen, ThirtyTwo, SixtyFour}
-use Rattle.td_core.specs.declared.expressions.Binary.{Binary as Operator}
-use Rattle.td_core.specs.declared.expressions.Binary.TheVariants.{Plus, Minus, Times, Over, Modulo, BitAnd, BitOr, BitXor, ShiftLeft as ShiftLeftOp, ShiftRight}
 use Rattle.td_core.specs.Term.{Term, number, name, complement, negation, compute, compare, both, either, choice, range_okay}
 use Rattle.td_core.specs.Types.{bits, limit, wider, type_of, computed_type}
 use Rattle.td_expr.specs.Value.{value_of, truth_of, number_of, flip, chosen, computed, related, natural, complemented, negated, compared, both_of, either_of, choice_of, range_okay_of}
@@ -85,17 +82,17 @@ shifted_right v x y h = by (nat_le 64 y) refl
 
 op_value : (op : Operator) (v w : Scalar) (x y : ℕ) (a b : Expr) (r : List ℕ) → valued a r ≡ x → valued b r ≡ y → x < limit v → y < limit w → FitsScalar (computed_type op v w) (computed op v w (pos x) (pos y))
     → valued (computed_of op (limit v - 1) a b) r ≡ natural (computed op v w (pos x) (pos y))
-op_value Plus v w x y a b r p q h k f = ap (λ z. operated 0 z (valued b r)) p ∙ ap (operated 0 x) q ∙ mod-eq_of_lt (omega (arith, f, limit_small (wider v w)))
-op_value Minus v w x y a b r p q h k f = ap (λ z. operated 1 z (valued b r)) p ∙ ap (operated 1 x) q ∙ by (nat_lt x y) refl
+op_value Add v w x y a b r p q h k f = ap (λ z. operated 0 z (valued b r)) p ∙ ap (operated 0 x) q ∙ mod-eq_of_lt (omega (arith, f, limit_small (wider v w)))
+op_value Subtract v w x y a b r p q h k f = ap (λ z. operated 1 z (valued b r)) p ∙ ap (operated 1 x) q ∙ by (nat_lt x y) refl
   where
     by : (c : Bool) → nat_lt x y ≡ c → operated 1 x y ≡ natural (pos x -ℤ pos y)
     by true e = absurd (subst (FitsScalar (wider v w)) (minus_under x y (ltb-true x y e)) f)
     by false e = let le = ltb-false x y e in wrapped x y le (omega (arith, h, limit_small v)) ∙ ap natural (sym (minus_is x y le))
-op_value Times v w x y a b r p q h k f = ap (λ z. operated 2 z (valued b r)) p ∙ ap (operated 2 x) q ∙ mod-eq_of_lt (omega (arith, f, limit_small (wider v w)))
-op_value Over v w x zero a b r p q h k f = ap (λ z. operated 3 z (valued b r)) p ∙ ap (operated 3 x) q
-op_value Over v w x (suc y) a b r p q h k f = ap (λ z. operated 3 z (valued b r)) p ∙ ap (operated 3 x) q ∙ ap (λ z. cond z 0 (x / suc y)) (nonzero y)
-op_value Modulo v w x zero a b r p q h k f = ap (λ z. operated 4 z (valued b r)) p ∙ ap (operated 4 x) q
-op_value Modulo v w x (suc y) a b r p q h k f = ap (λ z. operated 4 z (valued b r)) p ∙ ap (operated 4 x) q ∙ ap (λ z. cond z 0 (x % suc y)) (nonzero y)
+op_value Multiply v w x y a b r p q h k f = ap (λ z. operated 2 z (valued b r)) p ∙ ap (operated 2 x) q ∙ mod-eq_of_lt (omega (arith, f, limit_small (wider v w)))
+op_value Divide v w x zero a b r p q h k f = ap (λ z. operated 3 z (valued b r)) p ∙ ap (operated 3 x) q
+op_value Divide v w x (suc y) a b r p q h k f = ap (λ z. operated 3 z (valued b r)) p ∙ ap (operated 3 x) q ∙ ap (λ z. cond z 0 (x / suc y)) (nonzero y)
+op_value Remainder v w x zero a b r p q h k f = ap (λ z. operated 4 z (valued b r)) p ∙ ap (operated 4 x) q
+op_value Remainder v w x (suc y) a b r p q h k f = ap (λ z. operated 4 z (valued b r)) p ∙ ap (operated 4 x) q ∙ ap (λ z. cond z 0 (x % suc y)) (nonzero y)
 op_value BitAnd v w x y a b r p q h k f = ap (λ z. operated 5 z (valued b r)) p ∙ ap (operated 5 x) q ∙ ap (λ z. bit_and z y) (sym (mod-eq_of_lt (omega (arith, h, wider_left v w)))) ∙ ap (bit_and (x % limit (wider v w))) (sym (mod-eq_of_lt (omega (arith, k, wider_right v w))))
 op_value BitOr v w x y a b r p q h k f = ap (λ z. operated 6 z (valued b r)) p ∙ ap (operated 6 x) q ∙ ap (λ z. bit_or z y) (sym (mod-eq_of_lt (omega (arith, h, wider_left v w)))) ∙ ap (bit_or (x % limit (wider v w))) (sym (mod-eq_of_lt (omega (arith, k, wider_right v w))))
 op_value BitXor v w x y a b r p q h k f = ap (λ z. operated 7 z (valued b r)) p ∙ ap (operated 7 x) q ∙ ap (λ z. bit_xor z y) (sym (mod-eq_of_lt (omega (arith, h, wider_left v w)))) ∙ ap (bit_xor (x % limit (wider v w))) (sym (mod-eq_of_lt (omega (arith, k, wider_right v w))))

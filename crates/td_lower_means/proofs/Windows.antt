@@ -3,13 +3,10 @@ use Rattle.std.proofs.Common.{◌≡◌, ℕ, suc, ◌+◌, ◌-◌, ◌^◌, �
 use Rattle.std.proofs.lemmas.Bool.{ltb-false}
 use Rattle.td_core.specs.Term.{Term}
 use Rattle.td_core.specs.Outcome.{Behavior, and_then, within}
-use Rattle.td_core.specs.declared.module.Element.{Element}
-use Rattle.td_core.specs.declared.module.Element.TheVariants.{Number, Listed, Named, Unit as UnitElement, Rest, Zeros}
-use Rattle.td_core.specs.declared.outcome.Reason.TheVariants.{NotEnough, ListSize}
+use Rattle.td_lower_means.specs.Imports.{Element, Number, Listed, Named, Unit as UnitElement, Rest, Zeros, NotEnough, ListSize, Parts}
 use Rattle.td_meaning.specs.Naming.{some_name, element_names}
 use Rattle.td_meaning.specs.Meaning.{taken, demanded}
 use Rattle.td_lower_blocks.specs.Block.{Block}
-use Rattle.td_ir.specs.declared.tables.Parts.{Parts}
 use Rattle.td_ir.specs.State.{State}
 use Rattle.td_lower_means.proofs.BlockRun.{Passage, onwards, if_so, failed, Calling, ran, onto}
 use Rattle.td_lower_blocks.specs.Lowered.{exprs_of, terms_of}

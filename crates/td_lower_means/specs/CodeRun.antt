@@ -1,13 +1,11 @@
 -- What the code of a module's definitions does (own rule).
 use Rattle.std.specs.Prelude.{◌≡◌, ℕ, ◌<◌, ◌^◌, List, length}
-use Rattle.td_core.specs.declared.module.Module.{Module}
-use Rattle.td_core.specs.declared.module.Entry.{Entry}
+use Rattle.td_lower_means.specs.Imports.{Module, Entry, Parts}
 use Rattle.td_core.specs.Entries.{entry_definition}
 use Rattle.td_core.specs.Formed.{AllFit, params_at, cells_at}
 use Rattle.td_core.specs.Outcome.{Behavior, Ending, Accepted, Rejected}
 use Rattle.td_meaning.specs.Meaning.{meaning}
 use Rattle.td_meaning.specs.Copies.{opened, IsSoundOn}
-use Rattle.td_ir.specs.declared.tables.Parts.{Parts}
 use Rattle.td_ir.specs.WellFormed.{IsCode}
 use Rattle.td_ir.specs.State.{Way, Returned, Failed, Exit}
 use Rattle.td_ir.specs.Entries.{Fits, opened_by}

@@ -1,2 +1,3 @@
+pub mod Imports
 pub mod CodeRun
 pub mod Ready

@@ -1,8 +1,7 @@
 -- What lowering asks of a module, and that its definitions then have their places in registers.
 use Rattle.std.specs.Prelude.{◌≡◌, ℕ, ◌≤◌, [], length, Some, slice_get}
 use Rattle.td_num.specs.Lists.{Each}
-use Rattle.td_core.specs.declared.module.TypeDef.{TypeDef}
-use Rattle.td_core.specs.declared.module.Module.{Module}
+use Rattle.td_lower_means.specs.Imports.{TypeDef, Module}
 use Rattle.td_core.specs.Formed.{IsModuleFormed}
 use Rattle.td_core.specs.WellFormed.{EachField, IsFieldWhole, IsDefinitionSorted}
 use Rattle.td_kinds.specs.KindRules.{kind_faults}

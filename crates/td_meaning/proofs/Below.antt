@@ -2,8 +2,7 @@
 use Rattle.std.proofs.Common.{◌≡◌, ℕ, zero, suc, ◌<◌, ◌≤◌, List, refl, sym, ap, ◌∙◌, arith, inl, inr}
 use Rattle.std.proofs.lemmas.Bool.{eq-eqb, ne_eqb, cases_eq}
 use Rattle.std.specs.Prelude.{slice_get}
-use Rattle.td_core.specs.declared.module.TypeDef.{TypeDef}
-use Rattle.td_core.specs.declared.outcome.Reason.TheVariants.{Impossible}
+use Rattle.td_meaning.specs.Imports.{TypeDef, Impossible}
 use Rattle.td_core.specs.Outcome.{rejected}
 use Rattle.td_meaning.specs.Meaning.{pick}
 use Rattle.td_meaning.specs.Words64.{definition_meaning, below}

@@ -5,10 +5,8 @@ use Rattle.std.proofs.lemmas.List.{get_or-drop, length-replicate, get_or-append-
 use Rattle.td_num.specs.Numbers.{places_from}
 use Rattle.td_num.specs.Lists.{Each}
 use Rattle.td_num.proofs.Lists.{index_places, index_zeros}
-use Rattle.td_core.specs.declared.module.Module.{Module}
+use Rattle.td_meaning.specs.Imports.{Module, Entry, Accept, Reject}
 use Rattle.td_core.specs.Outcome.{Behavior, Ending, Accepted, Rejected, bytes_at, copies_by, outcome_of}
-use Rattle.td_core.specs.declared.module.Entry.{Entry}
-use Rattle.td_core.specs.declared.outcome.Verdict.TheVariants.{Accept, Reject}
 use Rattle.td_core.specs.Entries.{entry_definition}
 use Rattle.td_core.proofs.Found.{entry_found}
 use Rattle.td_meaning.specs.Meaning.{below, entry_place, meaning}

@@ -3,7 +3,7 @@ use Rattle.std.proofs.Common.{◌≡◌, ℕ, zero, suc, ◌+◌, ◌*◌, ◌%�
 use Rattle.std.proofs.lemmas.List.{append-nil}
 use Rattle.std.proofs.lemmas.Bool.{le-leb, eq-eqb, eqb-true, eqb-false}
 use Rattle.td_num.specs.Numbers.{bytes_in, places_from}
-use Rattle.td_core.specs.declared.outcome.Reason.TheVariants.{NotEnough, ListSize}
+use Rattle.td_meaning.specs.Imports.{NotEnough, ListSize}
 use Rattle.td_core.specs.Outcome.{accepted, after_reading, and_then}
 use Rattle.td_meaning.specs.Doing.{natural_of}
 use Rattle.td_meaning.specs.Meaning.{demanded, taken, elements, divides, filled, with_copy}

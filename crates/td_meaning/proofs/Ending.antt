@@ -1,8 +1,7 @@
 -- Facts of endings that accept. Cited by other crates.
 use Rattle.std.proofs.Common.{◌≡◌, ℕ, ◌+◌, ◌≤◌, Bool, true, false, List, refl, nat_le}
 use Rattle.std.proofs.lemmas.Bool.{leb-true}
-use Rattle.td_core.specs.declared.outcome.Reason.{Reason}
-use Rattle.td_core.specs.declared.outcome.Reason.TheVariants.{NotEnough}
+use Rattle.td_meaning.specs.Imports.{Reason, NotEnough}
 use Rattle.td_core.specs.Outcome.{Behavior, Ending, Accepted, Rejected, FramePlace, onward, ending_within}
 use Rattle.td_core.specs.Formed.{Bound, AllFit}
 use Rattle.td_meaning.specs.Meaning.{demanded, taken}

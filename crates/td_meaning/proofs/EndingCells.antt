@@ -5,9 +5,7 @@ use Rattle.std.proofs.lemmas.List.{length-set}
 use Rattle.td_num.specs.Lists.{Each}
 use Rattle.td_core.specs.Term.{Term, Deed, done, set, keep, fork, answer, give_up}
 use Rattle.td_core.specs.Types.{type_of}
-use Rattle.td_core.specs.declared.outcome.Reason.{Reason}
-use Rattle.td_core.specs.declared.outcome.Reason.TheVariants.{NotEnough}
-use Rattle.td_core.specs.declared.outcome.TraceFrame.{TraceFrame}
+use Rattle.td_meaning.specs.Imports.{Reason, NotEnough, TraceFrame}
 use Rattle.td_core.specs.Outcome.{Behavior, Ending, Accepted, Rejected, FramePlace, frame_at, onward, ending_within}
 use Rattle.td_expr.specs.Value.{value_of}
 use Rattle.td_expr.specs.Sound.{Sound}

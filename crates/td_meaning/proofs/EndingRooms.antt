@@ -4,9 +4,7 @@ use Rattle.std.specs.Prelude.{slice_get, slice_index}
 use Rattle.std.proofs.lemmas.List.{get_or-drop, length-map, length-drop, length-replicate, get_or-append-add}
 use Rattle.td_num.specs.Numbers.{places_from}
 use Rattle.td_num.proofs.Lists.{index_places, index_zeros}
-use Rattle.td_core.specs.declared.module.Buffer.{Buffer}
-use Rattle.td_core.specs.declared.module.Module.{Module}
-use Rattle.td_core.specs.declared.module.Entry.{Entry}
+use Rattle.td_meaning.specs.Imports.{Buffer, Module, Entry}
 use Rattle.td_core.specs.Outcome.{Behavior, Ending, Accepted, Rejected, bytes_at, copies_by, outcome_of}
 use Rattle.td_core.specs.Entries.{entry_definition}
 use Rattle.td_core.proofs.Found.{entry_found}

@@ -4,15 +4,7 @@ use Rattle.std.specs.Prelude.{slice_get}
 use Rattle.std.proofs.lemmas.Bool.{le-leb, lt-leb, eq-eqb}
 use Rattle.std.proofs.Math.Nat.{div-mul-le_self, min-le_right, mul-le-mul_right, le_trans}
 use Rattle.td_num.specs.Numbers.{bytes_in, places_from}
-use Rattle.td_num.specs.declared.number.NumberType.{NumberType}
-use Rattle.td_core.specs.declared.module.NameId.{NameId}
-use Rattle.td_core.specs.declared.module.TypeDef.{TypeDef}
-use Rattle.td_core.specs.declared.module.Module.{Module}
-use Rattle.td_core.specs.declared.module.Entry.{Entry}
-use Rattle.td_core.specs.declared.outcome.Reason.TheVariants.{NotEnough, Impossible, ListSize}
-use Rattle.td_core.specs.declared.outcome.TraceFrame.{TraceFrame}
-use Rattle.td_core.specs.declared.outcome.Verdict.{Verdict}
-use Rattle.td_core.specs.declared.outcome.Verdict.TheVariants.{Accept}
+use Rattle.td_meaning.specs.Imports.{NumberType, NameId, TypeDef, Module, Entry, NotEnough, Impossible, ListSize, TraceFrame, Verdict, Accept}
 use Rattle.td_core.specs.Outcome.{Ending, Accepted, Rejected, Behavior, and_then, accepted, rejected}
 use Rattle.td_meaning.specs.Meaning.{Sense, taken, demanded, elements, divides, filled, entry_place, numbers_at}
 use Rattle.td_meaning.specs.Words64.{definition_meaning, below, fields_meaning}

@@ -6,21 +6,7 @@ use Rattle.std.proofs.lemmas.Option.{none-some, same_Some, slice_get_within}
 use Rattle.td_num.specs.Numbers.{bytes_in, number_at, places_from}
 use Rattle.td_num.specs.Lists.{Each, is_among, first_where}
 use Rattle.td_core.specs.Term.{Term, Deed}
-use Rattle.td_core.specs.declared.module.NameId.{NameId}
-use Rattle.td_core.specs.declared.module.Element.{Element}
-use Rattle.td_core.specs.declared.module.Element.TheVariants.{Number, Listed, Named, Unit as UnitElement, Rest, Zeros}
-use Rattle.td_core.specs.declared.module.CopyOut.{CopyOut}
-use Rattle.td_core.specs.declared.module.Extent.{Extent}
-use Rattle.td_core.specs.declared.module.Extent.TheVariants.{Once, Filling, OnceFilling, UpToZero}
-use Rattle.td_core.specs.declared.module.Part.{Part}
-use Rattle.td_core.specs.declared.module.Field.{Field as FieldDef}
-use Rattle.td_core.specs.declared.module.Case.{Case}
-use Rattle.td_core.specs.declared.module.Body.{Body}
-use Rattle.td_core.specs.declared.module.Body.TheVariants.{Struct, Casetype}
-use Rattle.td_core.specs.declared.module.TypeDef.{TypeDef}
-use Rattle.td_core.specs.declared.outcome.Reason.{Reason}
-use Rattle.td_core.specs.declared.outcome.Reason.TheVariants.{NotEnough, Constraint, Impossible, ListSize, Action as ActionFails}
-use Rattle.td_core.specs.declared.outcome.TraceFrame.{TraceFrame}
+use Rattle.td_meaning.specs.Imports.{NameId, Element, Number, Listed, Named, Unit as UnitElement, Rest, Zeros, CopyOut, Extent, Once, Filling, OnceFilling, UpToZero, Part, Field as FieldDef, Case, Body, Struct, Casetype, TypeDef, Reason, NotEnough, Constraint, Impossible, ListSize, Action as ActionFails, TraceFrame}
 use Rattle.td_core.specs.Outcome.{Behavior, FramePlace, Ending, Accepted, Rejected, accepted, rejected, and_then, onward, ending_within, frame_at, within, after_reading}
 use Rattle.td_core.specs.WellFormed.{OfSome, EachField, HasParts}
 use Rattle.td_meaning.specs.Doing.{Effect, On, Returned, Aborted, doing, natural_of, is_true}

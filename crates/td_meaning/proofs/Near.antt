@@ -3,11 +3,8 @@ use Rattle.std.proofs.Common.{◌≡◌, ℕ, zero, suc, ◌+◌, ◌-◌, ◌*�
 use Rattle.std.specs.Prelude.{◌⊎◌, slice_index, nat_eq}
 use Rattle.std.proofs.lemmas.Bool.{cases_lt}
 use Rattle.td_num.specs.Numbers.{bytes_in, number_at, places_from}
-use Rattle.td_num.specs.declared.number.NumberType.{NumberType}
+use Rattle.td_meaning.specs.Imports.{NumberType, Element, Number, Listed, Named, Unit as UnitElement, Rest, Zeros, Reason}
 use Rattle.td_num.specs.Lists.{first_where, looked_at, one_more}
-use Rattle.td_core.specs.declared.module.Element.{Element}
-use Rattle.td_core.specs.declared.module.Element.TheVariants.{Number, Listed, Named, Unit as UnitElement, Rest, Zeros}
-use Rattle.td_core.specs.declared.outcome.Reason.{Reason}
 use Rattle.td_core.specs.Outcome.{Behavior, FramePlace, Ending, Accepted, Rejected, accepted, and_then, onward, within, after_reading}
 use Rattle.td_meaning.specs.Meaning.{demanded, is_nonzero, byte_type, zeros_end, run_of, numbers_at, zeros_meaning, elements, zero_end, up_to_zero, element_up_to_zero}
 use Rattle.td_meaning.specs.Throughout.{OnEnding}

@@ -1,9 +1,7 @@
 -- The place stays where a refinement, an action and the parts of a field are done. Cited by other crates.
 use Rattle.std.proofs.Common.{◌≡◌, ℕ, ◌+◌, List, [], ◌∷◌, ◌++◌, refl, ◌∙◌, Option, Some, None}
 use Rattle.td_core.specs.Term.{Term, Deed}
-use Rattle.td_core.specs.declared.module.NameId.{NameId}
-use Rattle.td_core.specs.declared.module.Part.{Part}
-use Rattle.td_core.specs.declared.outcome.Reason.TheVariants.{Constraint, Action as ActionFails}
+use Rattle.td_meaning.specs.Imports.{NameId, Part, Constraint, Action as ActionFails}
 use Rattle.td_core.specs.Outcome.{within}
 use Rattle.td_meaning.specs.Doing.{Effect, On, Returned, Aborted, doing, is_true}
 use Rattle.td_meaning.specs.Meaning.{refined, ended, acted, checked, parts_meaning, bits_of, field_place}

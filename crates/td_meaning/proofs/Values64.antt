@@ -3,10 +3,7 @@ use Rattle.std.proofs.Common.{◌≡◌, ℕ, zero, suc, ◌+◌, ◌-◌, ◌*�
 use Rattle.std.specs.Prelude.{◌-ℤ◌}
 use Rattle.std.proofs.lemmas.Bool.{ltb-true, ltb-false}
 use Rattle.std.proofs.Math.Nat.{mod-eq_of_lt}
-use Rattle.td_core.specs.declared.expressions.Scalar.{Scalar}
-use Rattle.td_core.specs.declared.expressions.Relation.TheVariants.{LessEqual}
-use Rattle.td_core.specs.declared.expressions.Binary.{Binary}
-use Rattle.td_core.specs.declared.expressions.Binary.TheVariants.{Plus, Minus, Times, Over, Modulo, BitAnd, BitOr, BitXor, ShiftLeft, ShiftRight}
+use Rattle.td_meaning.specs.Imports.{Scalar, LessEqual, Binary, Add, Subtract, Multiply, Divide, Remainder, BitAnd, BitOr, BitXor, ShiftLeft, ShiftRight}
 use Rattle.td_core.specs.Term.{Term, number, name, complement, negation, compute, compare, both, either, choice, range_okay}
 use Rattle.td_core.specs.Types.{limit, wider, type_of, computed_type}
 use Rattle.td_expr.specs.Value.{value_of as whole_value, truth_of, number_of, flip, chosen, computed, related, natural, complemented}
@@ -20,17 +17,17 @@ use Rattle.td_num.proofs.Equals.{minus_under}
 use Rattle.td_expr.proofs.Applying.{part_below}
 
 applied_is : (op : Binary) (v w : Scalar) (x y : ℕ) → x < limit v → y < limit w → FitsScalar (computed_type op v w) (computed op v w (pos x) (pos y)) → pos (applied op v x y) ≡ computed op v w (pos x) (pos y)
-applied_is Plus v w x y h k f = let e : min (x + y) (2 ^ 64 - 1) ≡ x + y = omega (arith, f, limit_small (wider v w)) in ap pos e
-applied_is Minus v w x y h k f = by (nat_lt x y) refl
+applied_is Add v w x y h k f = let e : min (x + y) (2 ^ 64 - 1) ≡ x + y = omega (arith, f, limit_small (wider v w)) in ap pos e
+applied_is Subtract v w x y h k f = by (nat_lt x y) refl
   where
     by : (c : Bool) → nat_lt x y ≡ c → pos (x - y) ≡ pos x -ℤ pos y
     by true e = absurd (subst (FitsScalar (wider v w)) (minus_under x y (ltb-true x y e)) f)
     by false e = sym (minus_is x y (ltb-false x y e))
-applied_is Times v w x y h k f = let e : min (x * y) (2 ^ 64 - 1) ≡ x * y = omega (arith, f, limit_small (wider v w)) in ap pos e
-applied_is Over v w x zero h k f = refl
-applied_is Over v w x (suc y) h k f = refl
-applied_is Modulo v w x zero h k f = refl
-applied_is Modulo v w x (suc y) h k f = refl
+applied_is Multiply v w x y h k f = let e : min (x * y) (2 ^ 64 - 1) ≡ x * y = omega (arith, f, limit_small (wider v w)) in ap pos e
+applied_is Divide v w x zero h k f = refl
+applied_is Divide v w x (suc y) h k f = refl
+applied_is Remainder v w x zero h k f = refl
+applied_is Remainder v w x (suc y) h k f = refl
 applied_is BitAnd v w x y h k f =
     ap (λ z. pos (bit_and z y)) (sym (mod-eq_of_lt (omega (arith, h, wider_left v w))))
     ∙ ap (λ z. pos (bit_and (x % limit (wider v w)) z)) (sym (mod-eq_of_lt (omega (arith, k, wider_right v w))))

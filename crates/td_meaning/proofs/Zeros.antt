@@ -3,10 +3,8 @@ use Rattle.std.proofs.Common.{◌≡◌, ℕ, zero, suc, ◌+◌, ◌-◌, ◌*�
 use Rattle.std.specs.Prelude.{nat_eq, nat_le, slice_index}
 use Rattle.std.proofs.lemmas.Bool.{false≢true}
 use Rattle.td_num.specs.Numbers.{bytes_in, number_at, places_from}
-use Rattle.td_num.specs.declared.number.NumberType.{NumberType}
+use Rattle.td_meaning.specs.Imports.{NumberType, Reason, Constraint, NotEnough, Padding}
 use Rattle.td_num.specs.Lists.{one_more, first_where, looked_at}
-use Rattle.td_core.specs.declared.outcome.Reason.{Reason}
-use Rattle.td_core.specs.declared.outcome.Reason.TheVariants.{Constraint, NotEnough, Padding}
 use Rattle.td_core.specs.Outcome.{Behavior, accepted, rejected, after_reading}
 use Rattle.td_meaning.specs.Meaning.{numbers_at, run_of, is_nonzero, byte_type, zeros_end, zeros_meaning, zero_end, up_to_zero}
 

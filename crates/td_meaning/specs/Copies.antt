@@ -3,16 +3,8 @@
 use Rattle.std.specs.Prelude.{◌≡◌, ℕ, ◌+◌, ◌*◌, ◌^◌, ◌<◌, List, ◌++◌, length, drop, replicate, Option, Some, None, slice_get, slice_index}
 use Rattle.td_num.specs.Lists.{Each, AreBytes}
 use Rattle.td_num.specs.Numbers.{places_from}
-use Rattle.td_num.specs.declared.number.NumberType.{NumberType}
-use Rattle.td_num.specs.declared.number.Width.TheVariants.{One}
+use Rattle.td_meaning.specs.Imports.{NumberType, One, Number, Filling, CopyOut, TypeDef, Module, Entry, Outcome}
 use Rattle.td_core.specs.Term.{Term}
-use Rattle.td_core.specs.declared.module.Element.TheVariants.{Number}
-use Rattle.td_core.specs.declared.module.Extent.TheVariants.{Filling}
-use Rattle.td_core.specs.declared.module.CopyOut.{CopyOut}
-use Rattle.td_core.specs.declared.module.TypeDef.{TypeDef}
-use Rattle.td_core.specs.declared.module.Module.{Module}
-use Rattle.td_core.specs.declared.module.Entry.{Entry}
-use Rattle.td_core.specs.declared.outcome.Outcome.{Outcome}
 use Rattle.td_core.specs.Entries.{entry_definition}
 use Rattle.td_core.specs.Formed.{IsModuleFormed}
 use Rattle.td_core.specs.Copies.{IsCopying}

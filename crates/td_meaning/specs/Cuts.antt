@@ -1,7 +1,6 @@
 -- A byte-sized array as places at which the message is cut (3D manual, "Arrays").
 use Rattle.std.specs.Prelude.{◌≡◌, ℕ, ◌<◌, ◌≤◌, ◌+◌, ◌↔◌, suc, List}
-use Rattle.td_core.specs.declared.outcome.Reason.{Reason}
-use Rattle.td_core.specs.declared.outcome.TraceFrame.{TraceFrame}
+use Rattle.td_meaning.specs.Imports.{Reason, TraceFrame}
 use Rattle.td_core.specs.Outcome.{Ending, Accepted, Rejected, Behavior}
 use Rattle.td_meaning.specs.Meaning.{elements}
 

@@ -1,7 +1,6 @@
 -- What is read decides the ending, and what is read (own rule).
 use Rattle.std.specs.Prelude.{◌≡◌, ℕ, List, [], ◌∷◌, length, slice_index}
-use Rattle.td_core.specs.declared.module.Module.{Module}
-use Rattle.td_core.specs.declared.module.Entry.{Entry}
+use Rattle.td_meaning.specs.Imports.{Module, Entry}
 use Rattle.td_meaning.specs.Meaning.{meaning}
 
 -- two messages have the same bytes at these places

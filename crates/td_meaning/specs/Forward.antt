@@ -1,8 +1,7 @@
 -- Fields are read forward (own rule): whether a byte is read rests on the bytes that were read before it.
 use Rattle.std.specs.Prelude.{◌≡◌, ◌⊎◌, ℕ, ◌<◌, ◌≤◌, ◌↔◌, List, [], ◌∷◌, length, slice_index}
 use Rattle.td_num.specs.Lists.{Each}
-use Rattle.td_core.specs.declared.module.Module.{Module}
-use Rattle.td_core.specs.declared.module.Entry.{Entry}
+use Rattle.td_meaning.specs.Imports.{Module, Entry}
 use Rattle.td_meaning.specs.Meaning.{meaning}
 
 -- a place is one of these

@@ -1,11 +1,7 @@
 -- What verdicts and the ends of actions stand for, with what is beside them in the code; of use below the validators.
 use Rattle.std.specs.Prelude.{◌≡◌, ◌⊎◌, ℕ, List, []}
 use Rattle.td_core.specs.Term.{Deed, done, set, keep, fork, answer, give_up}
-use Rattle.td_core.specs.declared.module.NameId.{NameId}
-use Rattle.td_core.specs.declared.outcome.Spot.{Spot}
-use Rattle.td_core.specs.declared.outcome.TraceFrame.{TraceFrame}
-use Rattle.td_core.specs.declared.outcome.Verdict.{Verdict}
-use Rattle.td_core.specs.declared.outcome.Verdict.TheVariants.{Accept, Reject}
+use Rattle.td_meaning.specs.Imports.{NameId, Spot, TraceFrame, Verdict, Accept, Reject}
 use Rattle.td_core.specs.Outcome.{Ending, Accepted, Rejected, FramePlace}
 use Rattle.td_meaning.specs.Doing.{Effect}
 use Rattle.td_meaning.specs.Doing as effect

@@ -18,7 +18,7 @@ pub enum Ended {
 }
 
 /// Sets a cell; one that isn't there is none.
-pub fn set_cell(cells: &mut [u64], place: usize, value: u64)
+pub(crate) fn set_cell(cells: &mut [u64], place: usize, value: u64)
     ensures { cells.new ≡ slice_set cells.old place value }
 {
     if place < cells.len() {
@@ -35,7 +35,7 @@ pub fn cell_at(cells: &[u64], place: usize) -> u64
 
 /// Does what an action says, for the values in scope and the places of its definition's cells among all cells.
 /// `AllocError`: it reads a cell, and there was no memory for the value.
-pub fn doing(
+pub(crate) fn doing(
     action: &Action,
     env: &mut Vec<u64>,
     places: &[usize],

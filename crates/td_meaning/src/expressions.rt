@@ -11,7 +11,7 @@ use td_expr::types::{greatest_of, type_of};
 use td_expr::value::{compare, shift_left, shift_right};
 
 /// The number that stands for a truth value: 1 for true, 0 for false.
-pub fn truth_number(truth: bool) -> u64
+pub(crate) fn truth_number(truth: bool) -> u64
     ensures { result ≡ truth_number truth }
 {
     if truth { 1 } else { 0 }
@@ -29,11 +29,11 @@ fn applied(op: Binary, scalar: Scalar, x: u64, y: u64) -> u64
     ensures { result ≡ applied op scalar x y }
 {
     match op {
-        Binary::Plus => x.saturating_add(y),
-        Binary::Minus => x.saturating_sub(y),
-        Binary::Times => x.saturating_mul(y),
-        Binary::Over => if y == 0 { 0 } else { x / y },
-        Binary::Modulo => if y == 0 { 0 } else { x % y },
+        Binary::Add => x.saturating_add(y),
+        Binary::Subtract => x.saturating_sub(y),
+        Binary::Multiply => x.saturating_mul(y),
+        Binary::Divide => if y == 0 { 0 } else { x / y },
+        Binary::Remainder => if y == 0 { 0 } else { x % y },
         Binary::BitAnd => x & y,
         Binary::BitOr => x | y,
         Binary::BitXor => x ^ y,

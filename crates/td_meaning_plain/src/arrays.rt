@@ -22,7 +22,7 @@ pub fn unfit(start: u32) -> Verdict
 }
 
 /// Numbers up to and with the first 0, within `size` bytes.
-pub fn numbers_up_to_zero(
+pub(crate) fn numbers_up_to_zero(
     number_type: NumberType,
     size: u64,
     message: &[u8],

@@ -12,7 +12,7 @@ use td_meaning::enums::is_among;
 use td_num::number::{NumberType, byte_count};
 
 /// A number, of a field that began at `start`, that must be among some values.
-pub fn listed_number(
+pub(crate) fn listed_number(
     base: NumberType,
     values: &[u64],
     message: &[u8],

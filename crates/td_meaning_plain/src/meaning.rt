@@ -1,6 +1,6 @@
 //! The plain program.
 
-ghost use Rattle.std.specs.Prelude.{◌≡◌, ℕ, ◌<◌, ◌^◌, [], IfOk, MatchOption, slice_get, Some, None, length, take, drop};
+ghost use Rattle.std.specs.Prelude.{◌≡◌, ◌≢◌, ℕ, ◌<◌, ◌^◌, ◌⊎◌, [], IfOk, OnErr, MatchOption, slice_get, Some, None, length, take, drop};
 ghost use Rattle.td_core.specs.Entries.{entry_definition};
 ghost use Rattle.td_core.specs.Outcome.{copies_by};
 ghost use Rattle.td_meaning.specs.Copies.{buffers_at, opened, outcome};
@@ -39,17 +39,29 @@ fn buffers_at(m: &Module, entry: Entry) -> usize
     }
 }
 
-/// The cells of an entry point, with those of its copy buffers, which hold nothing at first. `AllocError`: there was no
-/// memory for them.
+// The same cells. `AllocError`: there is one, and there was no memory for them.
+fn copied_cells(alloc: Global, cells: &[u64]) -> Result<Vec<u64>, AllocError>
+    ensures ok { IfOk result (λ copied. copied.items ≡ cells.now) }
+    ensures memory { OnErr result (0 < length cells.now) }
+{
+    if cells.is_empty() {
+        return Ok(Vec::new(alloc));
+    }
+    Ok(Vec::from_slice(alloc, cells)?)
+}
+
+/// The cells of an entry point, with those of its copy buffers, which hold nothing at first. `AllocError`: they are more than
+/// none, and there was no memory for them.
 pub fn opened(
     alloc: Global,
     m: &Module,
     entry: Entry,
     cells: &[u64],
 ) -> Result<Vec<u64>, AllocError>
-    ensures { IfOk result (λ all. all.items ≡ opened m.now entry cells.now) }
+    ensures ok { IfOk result (λ all. all.items ≡ opened m.now entry cells.now) }
+    ensures memory { OnErr result (0 < length (opened m.now entry cells.now)) }
 {
-    let mut all = Vec::from_slice(alloc, cells)?;
+    let mut all = copied_cells(alloc, cells)?;
     for k in 0..buffers_at(m, entry) {
         all.push(0)?;
         all.push(0)?;
@@ -57,7 +69,7 @@ pub fn opened(
     Ok(all)
 }
 
-// How the message ends, over all cells.
+// How the message ends, over all cells. `AllocError`: there is such an entry point, and there was no memory.
 fn verdict_of(
     alloc: Global,
     m: &Module,
@@ -71,6 +83,8 @@ fn verdict_of(
     ensures ending { IfOk result (λ v. Throughout Sound m.now entry args.now slate.old.cells.items bytes.now
         → (meaning m.now entry args.now slate.old.cells.items bytes.now).ending ≡ ending_of v slate.new.trace slate.new.cells.items) }
     ensures empty_trace { IfOk result (λ v. (q : ℕ) → v ≡ Verdict.Accept q → slate.new.trace ≡ []) }
+    ensures untouched { slice_get m.now.entries entry.number ≡ None → slate.new.cells.items ≡ slate.old.cells.items }
+    ensures memory { OnErr result (slice_get m.now.entries entry.number ≢ None) }
 {
     let Some(place) = entry_place(m, entry) else {
         return Ok(Verdict::Reject {
@@ -90,7 +104,8 @@ fn verdict_of(
     named(&walk, place, args, 0, slate)
 }
 
-// The outcome, of which so many of the first cells are the entry point's.
+// The outcome, of which so many of the first cells are the entry point's. `AllocError`: there is a cell, and there was no
+// memory for the cells or the copies.
 fn outcome_from(
     alloc: Global,
     verdict: Verdict,
@@ -98,7 +113,8 @@ fn outcome_from(
     count: usize,
     bytes: &[u8],
 ) -> Result<Outcome, AllocError>
-    ensures { IfOk result (λ o. o ≡ record { verdict = verdict; trace = slate.trace; cells = take count slate.cells.items; copies = copies_by bytes.now (drop count slate.cells.items) }) }
+    ensures ok { IfOk result (λ o. o ≡ record { verdict = verdict; trace = slate.trace; cells = take count slate.cells.items; copies = copies_by bytes.now (drop count slate.cells.items) }) }
+    ensures memory { OnErr result (0 < length slate.cells.items) }
 {
     let Slate { cells, trace } = slate;
     let (own, rest) = cells.as_slice().split_at(count.min(cells.len()));
@@ -112,7 +128,8 @@ fn outcome_from(
 
 /// What the module says of a message from an entry point: its verdict, the frames of its failure, and the cells and the
 /// copies as they then are. It holds on each message on which every expression that the meaning evaluates lies in its
-/// type's range, as in a module that passed the safety rule. `AllocError`: there was no memory for them.
+/// type's range, as in a module that passed the safety rule. `AllocError`: there is such an entry point or a cell, and there
+/// was no memory.
 pub fn meaning(
     alloc: Global,
     m: &Module,
@@ -122,8 +139,9 @@ pub fn meaning(
     bytes: &[u8],
 ) -> Result<Outcome, AllocError>
     requires { length bytes.now < 2 ^ 32 }
-    ensures { IfOk result (λ o. Throughout Sound m.now entry args.now (opened m.now entry cells.now) bytes.now
+    ensures ok { IfOk result (λ o. Throughout Sound m.now entry args.now (opened m.now entry cells.now) bytes.now
         → o ≡ outcome m.now entry args.now cells.now bytes.now) }
+    ensures memory { OnErr result ((slice_get m.now.entries entry.number ≢ None) ⊎ (0 < length cells.now)) }
 {
     let mut slate = Slate {
         cells: opened(alloc, m, entry, cells)?,

@@ -11,7 +11,7 @@ use td_core::outcome::{Reason, Verdict};
 use td_num::number::{ByteOrder, NumberType, byte_count};
 
 /// The byte at a place; 0 past the end.
-pub fn byte_at(message: &[u8], place: u64) -> u8
+pub(crate) fn byte_at(message: &[u8], place: u64) -> u8
     ensures { result ≡ slice_index message.now place }
 {
     message.get(place as usize).copied().unwrap_or(0)

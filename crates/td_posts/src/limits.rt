@@ -9,7 +9,7 @@ pub const MOST_SWAPS: usize = 16;
 /// Posts of all guests.
 pub const MOST_POSTS: usize = 4_096;
 /// Stores of all guests.
-pub const MOST_STORES: usize = 65_536;
+pub const MOST_STORES: usize = td_core::limits::MOST_STORES;
 /// Words of all messages, those that are posted and those that rings can name.
 pub const MOST_MESSAGE_WORDS: u64 = 1_048_576;
 /// Bytes of all copy buffers, those of each post and those of each look at a ring.
@@ -19,6 +19,6 @@ pub const MOST_RINGS: usize = 16;
 /// Entries of a ring.
 pub const MOST_ENTRIES: u32 = 1_024;
 /// Bytes of a message of a ring.
-pub const MOST_RING_MESSAGE: u32 = 1_048_576;
+pub const MOST_RING_MESSAGE: u32 = td_core::limits::MOST_MESSAGE as u32;
 /// Looks at one ring.
 pub const MOST_TAKES: u32 = 4_096;

@@ -2,7 +2,7 @@
 use Rattle.std.specs.Prelude.{ℕ, zero, suc, ◌-◌, ◌++◌, cond, List, [], ◌∷◌, length, replicate, slice_get, nat_eq, nat_lt, ◌+◌, ◌/◌}
 use Rattle.td_num.specs.Numbers.{places_from}
 use Rattle.td_prog.specs.Tree.{Tree, Done, Loads}
-use Rattle.td_prog.specs.Syntax.{Var, Reg, Helper, Program}
+use Rattle.td_prog.specs.Syntax.{Var, Reg, Helper, Function, Program}
 use Rattle.td_prog.specs.Values.{Locals, written}
 use Rattle.td_prog.specs.Means.{Out, Undefined, nowhere, given, Helpers, Routines, block_means}
 
@@ -46,26 +46,34 @@ registers_of (x ∷ xs) n = registers_of xs n
 abbrev pub begun : Helper → Locals → Locals
 begun h s = declared (replicate (registers_of h.locals (registers_of h.params 0)) 0) s
 
--- helper n, of those below k
-abbrev pub helpers_below : ℕ → List Helper → ℕ → Helpers
-helpers_below most hs zero n vs buffers s = Done Undefined
-helpers_below most hs (suc k) n vs buffers s =
+abbrev pub no_helper : Helpers
+no_helper n vs buffers s = Done Undefined
+
+-- helper n, of those below k; helpers with other numbers are these
+abbrev pub helpers_over : Helpers → ℕ → List Helper → ℕ → Helpers
+helpers_over others most hs zero n vs buffers s = others n vs buffers s
+helpers_over others most hs (suc k) n vs buffers s =
     cond (nat_eq n k)
-    (given (slice_get hs k) (λ h. (block_means most (helpers_below most hs k) no_routine [] buffers h.body nowhere []).0 (with_values h.params vs (begun h s))))
-    (helpers_below most hs k n vs buffers s)
+    (given (slice_get hs k) (λ h. (block_means most (helpers_over others most hs k) no_routine [] buffers h.body nowhere []).0 (with_values h.params vs (begun h s))))
+    (helpers_over others most hs k n vs buffers s)
+
+abbrev pub helpers_below : ℕ → List Helper → ℕ → Helpers
+helpers_below most hs k = helpers_over no_helper most hs k
 
 -- the first registers are the parameters; a routine begins at the caller's position, and its end is the caller's
 abbrev pub entered : ℕ → List ℕ → Locals → Locals
 entered registers args s = record (declared (args ++ replicate (registers - length args) 0) s) { pos = s.pos; end = s.end }
 
--- routine n, of those below k
-abbrev pub routines_below : ℕ → Program → ℕ → Routines
-routines_below most p zero n args places buffers s = Done Undefined
-routines_below most p (suc k) n args places buffers s =
+-- routine n, of those below k, with these helpers
+abbrev pub routines_over : Helpers → ℕ → List Function → ℕ → Routines
+routines_over helpers most fs zero n args places buffers s = Done Undefined
+routines_over helpers most fs (suc k) n args places buffers s =
     cond (nat_eq n k)
-    (given (slice_get p.routines k) (λ f.
-    (block_means most (helpers_below most p.helpers (length p.helpers)) (routines_below most p k) places buffers f.body nowhere []).0 (entered f.registers args s)))
-    (routines_below most p k n args places buffers s)
+    (given (slice_get fs k) (λ f. (block_means most helpers (routines_over helpers most fs k) places buffers f.body nowhere []).0 (entered f.registers args s)))
+    (routines_over helpers most fs k n args places buffers s)
+
+abbrev pub routines_below : ℕ → Program → ℕ → Routines
+routines_below most p k = routines_over (helpers_below most p.helpers (length p.helpers)) most p.routines k
 
 -- before the first statement: from byte 0 to a message's end, with cells and buffers; nothing was loaded
 abbrev pub started : (size : ℕ) → (cells : List ℕ) → (buffers : List (List ℕ)) → Locals
@@ -88,10 +96,14 @@ started size cells buffers = record (declared [] (record {
   count = 0;
 })) { end = size }
 
--- a routine, run from outside, with all cells and all buffers, where each loop takes at most so many turns
+-- a routine, run from outside, with all cells and all buffers
+abbrev pub run_from : Routines → (routine : ℕ) → (size : ℕ) → (args cells : List ℕ) → (buffers : List (List ℕ)) → Tree Out
+run_from routines n size args cells buffers =
+    routines n args (places_from 0 (length cells)) (places_from 0 (length buffers)) (started size cells buffers)
+
+-- the same of a program, where each loop takes at most so many turns
 abbrev pub free_run : (most : ℕ) → Program → (routine : ℕ) → (size : ℕ) → (args cells : List ℕ) → (buffers : List (List ℕ)) → Tree Out
-free_run most p n size args cells buffers =
-    routines_below most p (length p.routines) n args (places_from 0 (length cells)) (places_from 0 (length buffers)) (started size cells buffers)
+free_run most p n size args cells buffers = run_from (routines_below most p (length p.routines)) n size args cells buffers
 
 -- the same over so many words: C has no word behind them, so there is no such load
 abbrev pub guarded : (words : ℕ) → Tree Out → Tree Out

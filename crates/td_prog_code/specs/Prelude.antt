@@ -82,35 +82,43 @@ abbrev pub bytes_from : (k left : ℕ) → Block → Block
 bytes_from k zero b = b
 bytes_from k (suc left) b = Byte 0 (plus (Get Count) k) (Binary Shr (Get Number) (Num (8 * k))) (bytes_from (suc k) left b)
 
--- td_copy(run, pos, room, b0): so many bytes; byte by byte, and where a word begins at the position and is wanted whole, all eight at once
+-- td_copy(run, pos, room, b0): so many bytes; word by word where a word begins at the position and is wanted whole, and else a byte
 --   while (count < room) {
 --       low = pos % 8 * 8;
---       number = td_word(run, pos / 8);
 --       more = room - count;
 --       if (low) more = 0;
---       if (7 < more) {
+--       while (7 < more) {
+--           number = td_word(run, pos / 8);
 --           b0[count + 0] = (uint8_t)(number >> 0); .. b0[count + 7] = (uint8_t)(number >> 56);
 --           pos = pos + 8;
 --           count = count + 8;
+--           more = more - 8;
 --       }
---       if (more < 8) {
+--       if (count < room) {
+--           number = td_word(run, pos / 8);
 --           b0[count] = (uint8_t)(number >> low);
 --           pos = pos + 1;
 --           count = count + 1;
 --       }
 --   }
 --   return count;
+abbrev pub copied_by : ℕ → Block → Block
+copied_by n rest = Assign Pos (plus (Get Pos) n) (Assign Count (plus (Get Count) n) rest)
+
+abbrev pub copy_word : Block
+copy_word = CallHelper Number word_helper (word ∷ []) [] (bytes_from 0 8 (copied_by 8 (Assign More (Binary Sub (Get More) (Num 8)) Ends)))
+
+abbrev pub copy_byte : Block
+copy_byte = CallHelper Number word_helper (word ∷ []) [] (Byte 0 (Get Count) (Binary Shr (Get Number) (Get Low)) (copied_by 1 Ends))
+
 abbrev pub copy_turn : Block
 copy_turn =
     Assign Low low
-    (CallHelper Number word_helper (word ∷ []) []
     (Assign More (Binary Sub (Get Room) (Get Count))
     (If (Get Low) (Assign More (Num 0) Ends)
-    (If (Binary Lt (Num 7) (Get More))
-    (bytes_from 0 8 (Assign Pos (plus (Get Pos) 8) (Assign Count (plus (Get Count) 8) Ends)))
-    (If (Binary Lt (Get More) (Num 8))
-    (Byte 0 (Get Count) (Binary Shr (Get Number) (Get Low)) (Assign Pos (plus (Get Pos) 1) (Assign Count (plus (Get Count) 1) Ends)))
-    Ends)))))
+    (While (Binary Lt (Num 7) (Get More)) copy_word
+    (If (Binary Lt (Get Count) (Get Room)) copy_byte
+    Ends))))
 
 abbrev pub td_copy : Helper
 td_copy = record {

@@ -6,8 +6,9 @@ use Rattle.td_ir.specs.declared.instructions.Instr.{Instr}
 use Rattle.td_ir.specs.declared.tables.Parts.{Parts}
 use Rattle.td_ir.specs.declared.tables.EntryPoint.{EntryPoint}
 use Rattle.td_ir.specs.Tables.{site_of}
-use Rattle.td_prog.specs.Syntax.{Pos, End, Start, Outer, Low, Number, More, Most, Room, Count, Reg, Shr, Lt, Num, Get, Binary, Block, Ends, Assign, Store, Byte, Member, If, CallHelper, Helper, Function, registers}
-use Rattle.td_prog_code.specs.Prelude.{bytes_from, copy_helper, plus, prelude}
+use Rattle.td_prog.specs.Syntax.{Pos, End, Start, Outer, Number, More, Most, Room, Count, Reg, Lt, Num, Get, Binary, Block, Ends, Assign, Store, Member, If, While, CallHelper, Helper, Function, registers}
+use Rattle.td_prog_code.specs.Prelude.{copy_helper, copy_word, copy_byte, prelude}
+use Rattle.td_prog_code.specs.PartsPrelude.{parts_prelude}
 use Rattle.td_prog_code.specs.Instructions.{reg, room, taken, spot, statement}
 use Rattle.td_prog_code.specs.Program.{blocks, body, first_block, function, functions}
 use Rattle.td_prog_text.specs.Names.{routine_name}
@@ -71,16 +72,16 @@ copy_pieces c depth size buffer site most cell =
 abbrev pub helper_pieces : Parts → Helper → Pieces
 helper_pieces c h = texts.helper c.names helper_names (routine_names c) h
 
--- the two ways in which td_copy goes on: a whole word, and a byte
+-- the same in the file for messages in pieces
+abbrev pub parts_helper_pieces : Parts → Helper → Pieces
+parts_helper_pieces c h = texts.helper c.names (map (λ (x : Helper). x.name) parts_prelude) (routine_names c) h
+
+-- the two ways in which td_copy goes on: whole words, and a byte
 abbrev pub whole_pieces : Pieces
-whole_pieces =
-    lines.statements [] [] [] Ends 2
-    (If (Binary Lt (Num 7) (Get More)) (bytes_from 0 8 (Assign Pos (plus (Get Pos) 8) (Assign Count (plus (Get Count) 8) Ends))) Ends)
+whole_pieces = lines.statements [] helper_names [] Ends 2 (While (Binary Lt (Num 7) (Get More)) copy_word Ends)
 
 abbrev pub single_pieces : Pieces
-single_pieces =
-    lines.statements [] [] [] Ends 2
-    (If (Binary Lt (Get More) (Num 8)) (Byte 0 (Get Count) (Binary Shr (Get Number) (Get Low)) (Assign Pos (plus (Get Pos) 1) (Assign Count (plus (Get Count) 1) Ends))) Ends)
+single_pieces = lines.statements [] helper_names [] Ends 2 (If (Binary Lt (Get Count) (Get Room)) copy_byte Ends)
 
 -- of routine n
 abbrev pub routine_pieces : Parts → ℕ → Pieces

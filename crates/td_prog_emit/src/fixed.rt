@@ -37,8 +37,18 @@ fn push_outcome_text(out: &mut Vec<u8>) -> Result<(), AllocError>
     )
 }
 
-// Which machines there are.
-fn push_machines(out: &mut Vec<u8>) -> Result<(), AllocError>
+// A piece of a message.
+fn push_piece_text(out: &mut Vec<u8>) -> Result<(), AllocError>
+    ensures { Wrote result out.old.items out.new.items (texts.piece_text ∷ []) }
+{
+    push(
+        out,
+        b"#ifndef TD_PIECE\n#define TD_PIECE\n/* A piece of a message: `size` bytes, of which the first is byte `place` of these words. */\nstruct td_piece {\n    const uint64_t *words;\n    uint32_t place;\n    uint32_t size;\n};\n#endif\n\n",
+    )
+}
+
+/// Which machines there are.
+pub fn push_machines(out: &mut Vec<u8>) -> Result<(), AllocError>
     ensures { Wrote result out.old.items out.new.items (texts.machines ∷ []) }
 {
     push(
@@ -47,8 +57,8 @@ fn push_machines(out: &mut Vec<u8>) -> Result<(), AllocError>
     )
 }
 
-// How a word is loaded, and its bytes swapped.
-fn push_primitives(out: &mut Vec<u8>) -> Result<(), AllocError>
+/// How a word is loaded, and its bytes swapped.
+pub fn push_primitives(out: &mut Vec<u8>) -> Result<(), AllocError>
     ensures { Wrote result out.old.items out.new.items (texts.primitives ∷ []) }
 {
     push(
@@ -57,8 +67,8 @@ fn push_primitives(out: &mut Vec<u8>) -> Result<(), AllocError>
     )
 }
 
-// What compilers shall not warn of.
-fn push_warnings(out: &mut Vec<u8>) -> Result<(), AllocError>
+/// What compilers shall not warn of.
+pub fn push_warnings(out: &mut Vec<u8>) -> Result<(), AllocError>
     ensures { Wrote result out.old.items out.new.items (texts.warnings ∷ []) }
 {
     push(
@@ -92,7 +102,7 @@ pub fn push_front(out: &mut Vec<u8>, prefix: &[u8]) -> Result<(), AllocError>
 
 /// What stands before the declarations of the header.
 pub fn push_header_front(out: &mut Vec<u8>, prefix: &[u8]) -> Result<(), AllocError>
-    ensures { Wrote result out.old.items out.new.items (codes "#ifndef TD_" ∷ prefix.now ∷ codes "_H\n#define TD_" ∷ prefix.now ∷ codes "_H\n\n" ∷ texts.types_text ∷ codes "#ifdef __cplusplus\nextern \"C\" {\n#endif\n\n" ∷ texts.reasons_text ∷ texts.outcome_text ∷ []) }
+    ensures { Wrote result out.old.items out.new.items (codes "#ifndef TD_" ∷ prefix.now ∷ codes "_H\n#define TD_" ∷ prefix.now ∷ codes "_H\n\n" ∷ texts.types_text ∷ codes "#ifdef __cplusplus\nextern \"C\" {\n#endif\n\n" ∷ texts.reasons_text ∷ texts.outcome_text ∷ texts.piece_text ∷ []) }
 {
     push(out, b"#ifndef TD_")?;
     push(out, prefix)?;
@@ -102,7 +112,8 @@ pub fn push_header_front(out: &mut Vec<u8>, prefix: &[u8]) -> Result<(), AllocEr
     push_types_text(out)?;
     push(out, b"#ifdef __cplusplus\nextern \"C\" {\n#endif\n\n")?;
     push_reasons_text(out)?;
-    push_outcome_text(out)
+    push_outcome_text(out)?;
+    push_piece_text(out)
 }
 
 /// What stands behind them.

@@ -19,7 +19,8 @@ use td_ir::tables::Parts;
 use td_verify::Verified;
 use td_verify::laws::sound_code_is_safe;
 
-fn push_routines(alloc: Global, out: &mut Vec<u8>, parts: &Parts) -> Result<(), AllocError>
+/// A function for each routine.
+pub fn push_routines(alloc: Global, out: &mut Vec<u8>, parts: &Parts) -> Result<(), AllocError>
     requires code { IsCode parts.now }
     requires sound { IsSound parts.now }
     requires safe { IsSafe parts.now }

@@ -57,7 +57,8 @@ fn push_little(out: &mut Vec<u8>, name: &[u8], width: u16) -> Result<(), AllocEr
     push(out, b";\n}\n\n")
 }
 
-fn push_big(out: &mut Vec<u8>, name: &[u8], width: u16) -> Result<(), AllocError>
+/// A number whose highest byte stands first.
+pub fn push_big(out: &mut Vec<u8>, name: &[u8], width: u16) -> Result<(), AllocError>
     requires { width ≤ 8 }
     ensures { (parts : tables.Parts) → Wrote result out.old.items out.new.items (helper_pieces parts (big name.now width)) }
 {
@@ -87,11 +88,17 @@ fn push_byte(out: &mut Vec<u8>, k: u64) -> Result<(), AllocError>
     push_numeral_in(out, b"", 8 * k, b");\n")
 }
 
-// A whole word, its eight bytes at once.
+// Whole words, of each its eight bytes at once.
 fn push_whole(out: &mut Vec<u8>) -> Result<(), AllocError>
     ensures { Wrote result out.old.items out.new.items whole_pieces }
 {
-    push_numeral_in(out, b"        if (", 7, b" < more) {\n")?;
+    push_numeral_in(
+        out,
+        b"        while (",
+        7,
+        b" < more) {\n            number = td_word(run, pos / ",
+    )?;
+    push_numeral_in(out, b"", 8, b");\n")?;
     push_byte(out, 0)?;
     push_byte(out, 1)?;
     push_byte(out, 2)?;
@@ -101,14 +108,20 @@ fn push_whole(out: &mut Vec<u8>) -> Result<(), AllocError>
     push_byte(out, 6)?;
     push_byte(out, 7)?;
     push_numeral_in(out, b"            pos = pos + ", 8, b";\n")?;
-    push_numeral_in(out, b"            count = count + ", 8, b";\n        }\n")
+    push_numeral_in(out, b"            count = count + ", 8, b";\n")?;
+    push_numeral_in(out, b"            more = more - ", 8, b";\n        }\n")
 }
 
 // One byte.
 fn push_single(out: &mut Vec<u8>) -> Result<(), AllocError>
     ensures { Wrote result out.old.items out.new.items single_pieces }
 {
-    push_numeral_in(out, b"        if (more < ", 8, b") {\n")?;
+    push_numeral_in(
+        out,
+        b"        if (count < room) {\n            number = td_word(run, pos / ",
+        8,
+        b");\n",
+    )?;
     push_decimal_in(
         out,
         b"            b",
@@ -131,8 +144,13 @@ fn push_copy_helper(out: &mut Vec<u8>) -> Result<(), AllocError>
         out,
         b")\n{\n    uint64_t low = 0;\n    uint64_t number = 0;\n    uint64_t more = 0;\n    uint64_t count = 0;\n    while (count < room) {\n",
     )?;
-    push_found(out, b"        ")?;
-    push(out, b"        more = room - count;\n        if (low) {\n")?;
+    push_numeral_in(out, b"        low = (pos % ", 8, b") * ")?;
+    push_numeral_in(
+        out,
+        b"",
+        8,
+        b";\n        more = room - count;\n        if (low) {\n",
+    )?;
     push_numeral_in(out, b"            more = ", 0, b";\n        }\n")?;
     push_whole(out)?;
     push_single(out)?;

@@ -214,8 +214,8 @@ fn push_cells_by(
     push(out, b"};\n")
 }
 
-// `uint64_t td_cells[3] = {*n, 0, 0};`
-fn push_cells_line(
+/// `uint64_t td_cells[3] = {*n, 0, 0};`
+pub fn push_cells_line(
     out: &mut Vec<u8>,
     entry: &EntryPoint,
     names: &[Items<u8>],
@@ -289,8 +289,8 @@ fn push_declared(
     push(out, b";\n\n")
 }
 
-// An entry point's tables are as long as its routine says.
-fn small(parts: &Parts, entry: &EntryPoint)
+/// An entry point's tables are as long as its routine says.
+pub fn small(parts: &Parts, entry: &EntryPoint)
     requires code { IsCode parts.now }
     requires entry { IsEntry parts.now entry.now }
     ensures small { IsSmall entry.now }

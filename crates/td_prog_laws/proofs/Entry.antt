@@ -1,7 +1,7 @@
 -- What the caller of an entry point is told, by the program's end.
 use Rattle.std.proofs.Common.{◌≡◌, ℕ, zero, suc, ◌+◌, ◌-◌, ◌*◌, ◌%◌, ◌^◌, ◌<◌, ◌≤◌, true, false, cond, List, [], ◌∷◌, ◌++◌, length, length-take, map, Some, None, refl, sym, ap, ◌∙◌, subst, arith, take, drop, replicate}
-use Rattle.std.specs.Prelude.{nat_eq, slice_index}
-use Rattle.std.proofs.lemmas.Bool.{ne_eqb}
+use Rattle.std.specs.Prelude.{nat_eq, nat_lt, slice_index}
+use Rattle.std.proofs.lemmas.Bool.{ne_eqb, lt-ltb}
 use Rattle.std.proofs.lemmas.List.{length-map}
 use Rattle.std.proofs.Math.Nat.{mod-eq_of_lt}
 use Rattle.td_num.specs.Lists.{Each}
@@ -11,6 +11,7 @@ use Rattle.td_core.specs.declared.outcome.Reason.{Reason}
 use Rattle.td_core.specs.declared.outcome.TraceFrame.{TraceFrame}
 use Rattle.td_core.specs.Outcome.{copies_by}
 use Rattle.td_stream.specs.declared.load.Load.{Load}
+use Rattle.td_stream.specs.Layouts.{length_in}
 use Rattle.td_ir.specs.declared.tables.Routine.{Routine}
 use Rattle.td_ir.specs.declared.tables.EntryPoint.{EntryPoint}
 use Rattle.td_ir.specs.Tables.{no_routine, entry_of}
@@ -21,8 +22,12 @@ use Rattle.td_verify_runs.specs.Laws.{RunStaysWithin}
 use Rattle.td_prog.specs.Tree.{Tree, Done, Loads, bind, Plays}
 use Rattle.td_prog.specs.Means.{Out, Gave, Refused, Undefined}
 use Rattle.td_prog.specs.Run.{run}
+use Rattle.td_prog.specs.Pieces.{run_in}
 use Rattle.td_prog_code.specs.Program.{program}
 use Rattle.td_prog_code.specs.Sentence.{held, IsEnd, ProgramRuns}
+use Rattle.td_prog_code.specs.PartsPrelude.{parts_program}
+use Rattle.td_prog_code.specs.PartsSentence.{ProgramRunsInParts}
+use Rattle.td_prog_code.specs.PartsEntry.{too_long, EntryRunsInParts}
 use Rattle.td_prog_code.specs.Entry.{CallerBuffer, CallerOutcome, Caller, Answered, Lost, narrowed, counted, emptied, answer_to, bytes_of, IsTold, EntryRuns}
 use Rattle.td_prog_laws.specs.Frames.{FewFrames}
 
@@ -143,6 +148,36 @@ entry_runs runs stays few c names entry size most args before loads answer code 
       holds = λ b carries bytes.
           let h = q.holds b carries bytes in
           let size_is : length b ≡ size = (let z = carries.size in omega (arith, z)) in
+          let long : length b < 2 ^ 32 = omega (arith, size_is, short) in
+          let w = (ir.run c entry args (opened_by c entry before.cells) b).way in (
+            subst (λ a. IsTold e before b a w) r.is
+                (told e before b (map length (bytes_of before.buffers)) long room r.first w (λ pos cells z. stays c e.routine args (opened_by c entry before.cells) b pos cells code sound is.there z)
+                (λ reason pos trace cells z. few c entry args (opened_by c entry before.cells) b reason pos trace cells code sound fits.there z)
+                (subst (λ n. IsEnd n (map length (bytes_of before.buffers)) b r.first w) fits.cell_count h.0)),
+            h.1,
+          );
+    }
+
+pub entry_runs_in_parts : ProgramRunsInParts → RunStaysWithin → FewFrames → EntryRunsInParts
+entry_runs_in_parts runs stays few c names entry layout most args before loads answer code sound numbers fits short big rooms plays values =
+    let k = entry.number in
+    let e = entry_of c k in
+    let is = code.entries k fits.there in
+    let opened : before.cells ++ replicate (2 * length e.buffers) 0 ≡ opened_by c entry before.cells = ap (λ n. before.cells ++ replicate (2 * n) 0) is.buffer_count in
+    let whole = bind (run_in layout most (parts_program c names) e.routine args (before.cells ++ replicate (2 * length e.buffers) 0) (bytes_of before.buffers)) (λ out. Done (answer_to e before out)) in
+    let fit : nat_lt (length_in layout) (2 ^ 32) ≡ true = lt-ltb (length_in layout) (2 ^ 32) short in
+    let called : Plays whole loads answer = subst (λ b. Plays (cond b whole (Done (too_long before))) loads answer) fit plays in
+    let r = plays_bind (run_in layout most (parts_program c names) e.routine args (before.cells ++ replicate (2 * length e.buffers) 0) (bytes_of before.buffers)) (answer_to e before) loads answer called in
+    let p = subst (λ cs. Plays (run_in layout most (parts_program c names) e.routine args cs (bytes_of before.buffers)) loads r.first) opened r.plays in
+    let q = runs c names entry layout most args before.cells (bytes_of before.buffers) loads r.first code sound numbers fits short big rooms p values in
+    let room : Each (λ v. v < 2 ^ 32) (map length (bytes_of before.buffers)) =
+    subst (Each (λ v. v < 2 ^ 32)) (sym rooms) (each_index (λ (x : Routine). Each (λ v. v < 2 ^ 32) x.buffers) c.routines no_routine e.routine numbers.rooms is.there) in
+    record {
+      rising = q.rising;
+      inside = q.inside;
+      holds = λ b carries bytes.
+          let h = q.holds b carries bytes in
+          let size_is = carries.size in
           let long : length b < 2 ^ 32 = omega (arith, size_is, short) in
           let w = (ir.run c entry args (opened_by c entry before.cells) b).way in (
             subst (λ a. IsTold e before b a w) r.is

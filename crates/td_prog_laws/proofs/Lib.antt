@@ -6,3 +6,4 @@ mod Depths
 mod Frames
 mod Entry
 mod Shallow
+mod PartsText

@@ -120,7 +120,7 @@ one_identifier : (bs : List ℕ) → is_identifier bs ≡ true → IsIdentifier 
 one_identifier [] h = absurd (cc)
 one_identifier (b ∷ bs) h = (left (is_letter b) (is_inside bs) h, all_inside bs (right (is_letter b) (is_inside bs) h))
 
-all_identifiers : (ns : List (List ℕ)) → are_identifiers ns ≡ true → Each IsIdentifier ns
+pub all_identifiers : (ns : List (List ℕ)) → are_identifiers ns ≡ true → Each IsIdentifier ns
 all_identifiers [] h = tt
 all_identifiers (n ∷ ns) h = (one_identifier n (left (is_identifier n) (are_identifiers ns) h), all_identifiers ns (right (is_identifier n) (are_identifiers ns) h))
 
@@ -139,7 +139,7 @@ module _ (c : Parts) (spelled : Each IsName c.names) where
     ),
   )
 
-  routines_identifiers : (count first : ℕ) → first + count < 2 ^ 64 → Each IsIdentifier (map (λ (f : Function). f.name) (functions c (routine_name c) first count))
+  pub routines_identifiers : (count first : ℕ) → first + count < 2 ^ 64 → Each IsIdentifier (map (λ (f : Function). f.name) (functions c (routine_name c) first count))
   routines_identifiers zero first l = tt
   routines_identifiers (suc count) first l = (routine_identifier first (omega (arith, l)), routines_identifiers count (first + 1) (omega (arith, l)))
 
@@ -161,25 +161,27 @@ abbrev digits_of : List ℕ → List ℕ
 digits_of [] = []
 digits_of (b ∷ bs) = cond (is_digit b) (b ∷ digits_of bs) []
 
-abbrev place : List ℕ → ℕ
-place name = cond (is_digit (slice_index name 3)) (9 + digits_value 10 (digits_of (drop 3 name))) (place_in (map (λ (h : Helper). h.name) prelude) name)
+abbrev pub place : List (List ℕ) → List ℕ → ℕ
+place helpers name = cond (is_digit (slice_index name 3)) (9 + digits_value 10 (digits_of (drop 3 name))) (place_in helpers name)
 
 take_digits : (ds name : List ℕ) → Each IsDigit ds → digits_of ((ds ++ codes "_") ++ name) ≡ ds
 take_digits [] name h = refl
 take_digits (d ∷ ds) name h = ap (λ t. cond t (d ∷ digits_of ((ds ++ codes "_") ++ name)) []) h.0 ∙ ap (λ xs. d ∷ xs) (take_digits ds name h.1)
 
-place_digits : (ds name : List ℕ) → Begins ds → Each IsDigit ds → place (116 ∷ 100 ∷ 95 ∷ ((ds ++ codes "_") ++ name)) ≡ 9 + digits_value 10 ds
-place_digits [] name b h = absurd b
-place_digits (d ∷ ds) name b h =
+place_digits : (helpers : List (List ℕ)) (ds name : List ℕ) → Begins ds → Each IsDigit ds
+    → place helpers (116 ∷ 100 ∷ 95 ∷ ((ds ++ codes "_") ++ name)) ≡ 9 + digits_value 10 ds
+place_digits helpers [] name b h = absurd b
+place_digits helpers (d ∷ ds) name b h =
     let whole = d ∷ ((ds ++ codes "_") ++ name) in
-    ap (λ t. cond t (9 + digits_value 10 (digits_of whole)) (place_in (map (λ (x : Helper). x.name) prelude) (116 ∷ 100 ∷ 95 ∷ whole))) b
+    ap (λ t. cond t (9 + digits_value 10 (digits_of whole)) (place_in helpers (116 ∷ 100 ∷ 95 ∷ whole))) b
     ∙ ap (λ xs. 9 + digits_value 10 xs) (take_digits (d ∷ ds) name h)
 
-module _ (c : Parts) where
-  place_routine : (k : ℕ) → k < 2 ^ 64 → place (routine_name c k) ≡ 9 + k
-  place_routine k l = place_digits (decimal k) (name_of c (routine_of c k).name) (decimal_begins k l) (decimal_digits k l) ∙ ap (λ n. 9 + n) (decimal_is_IsNumeral k l).1
+pub place_routine : (helpers : List (List ℕ)) (c : Parts) (k : ℕ) → k < 2 ^ 64 → place helpers (routine_name c k) ≡ 9 + k
+place_routine helpers c k l =
+    place_digits helpers (decimal k) (name_of c (routine_of c k).name) (decimal_begins k l) (decimal_digits k l) ∙ ap (λ n. 9 + n) (decimal_is_IsNumeral k l).1
 
-  named : (count first k : ℕ) (name : List ℕ) → slice_get (map (λ (f : Function). f.name) (functions c (routine_name c) first count)) k ≡ Some name → (routine_name c (first + k) ≡ name) × (k < count)
+module _ (c : Parts) where
+  pub named : (count first k : ℕ) (name : List ℕ) → slice_get (map (λ (f : Function). f.name) (functions c (routine_name c) first count)) k ≡ Some name → (routine_name c (first + k) ≡ name) × (k < count)
   named zero first k name e = absurd (none-some name e)
   named (suc count) first zero name e = (let same : first + 0 ≡ first = omega arith in ap (routine_name c) same ∙ same_Some (routine_name c first) name e, omega arith)
   named (suc count) first (suc k) name e =
@@ -187,23 +189,26 @@ module _ (c : Parts) where
       let same : first + suc k ≡ first + 1 + k = omega arith in
       let l = r.1 in (ap (routine_name c) same ∙ r.0, omega (arith, l))
 
+  abbrev helper_names : List (List ℕ)
+  helper_names = map (λ (h : Helper). h.name) prelude
+
   module _ (few : length c.routines < 2 ^ 64) where
-    placed : (i : ℕ) (name : List ℕ) → slice_get (function_names (program c (routine_name c))) i ≡ Some name → place name ≡ i
-    placed zero name e = ap place (sym (same_Some (codes "td_word") name e))
-    placed (suc zero) name e = ap place (sym (same_Some (codes "td_little_1") name e))
-    placed (suc (suc zero)) name e = ap place (sym (same_Some (codes "td_little_2") name e))
-    placed (suc (suc (suc zero))) name e = ap place (sym (same_Some (codes "td_little_4") name e))
-    placed (suc (suc (suc (suc zero)))) name e = ap place (sym (same_Some (codes "td_little_8") name e))
-    placed (suc (suc (suc (suc (suc zero))))) name e = ap place (sym (same_Some (codes "td_big_2") name e))
-    placed (suc (suc (suc (suc (suc (suc zero)))))) name e = ap place (sym (same_Some (codes "td_big_4") name e))
-    placed (suc (suc (suc (suc (suc (suc (suc zero))))))) name e = ap place (sym (same_Some (codes "td_big_8") name e))
-    placed (suc (suc (suc (suc (suc (suc (suc (suc zero)))))))) name e = ap place (sym (same_Some (codes "td_copy") name e))
+    placed : (i : ℕ) (name : List ℕ) → slice_get (function_names (program c (routine_name c))) i ≡ Some name → place helper_names name ≡ i
+    placed zero name e = ap (place helper_names) (sym (same_Some (codes "td_word") name e))
+    placed (suc zero) name e = ap (place helper_names) (sym (same_Some (codes "td_little_1") name e))
+    placed (suc (suc zero)) name e = ap (place helper_names) (sym (same_Some (codes "td_little_2") name e))
+    placed (suc (suc (suc zero))) name e = ap (place helper_names) (sym (same_Some (codes "td_little_4") name e))
+    placed (suc (suc (suc (suc zero)))) name e = ap (place helper_names) (sym (same_Some (codes "td_little_8") name e))
+    placed (suc (suc (suc (suc (suc zero))))) name e = ap (place helper_names) (sym (same_Some (codes "td_big_2") name e))
+    placed (suc (suc (suc (suc (suc (suc zero)))))) name e = ap (place helper_names) (sym (same_Some (codes "td_big_4") name e))
+    placed (suc (suc (suc (suc (suc (suc (suc zero))))))) name e = ap (place helper_names) (sym (same_Some (codes "td_big_8") name e))
+    placed (suc (suc (suc (suc (suc (suc (suc (suc zero)))))))) name e = ap (place helper_names) (sym (same_Some (codes "td_copy") name e))
     placed (suc (suc (suc (suc (suc (suc (suc (suc (suc k))))))))) name e =
         let r = named (length c.routines) 0 k name e in
         let l = r.1 in
         let same : 0 + k ≡ k = omega arith in
         let last : 9 + k ≡ suc (suc (suc (suc (suc (suc (suc (suc (suc k)))))))) = omega arith in
-        ap place (sym r.0 ∙ ap (routine_name c) same) ∙ place_routine k (omega (arith, l, few)) ∙ last
+        ap (place helper_names) (sym r.0 ∙ ap (routine_name c) same) ∙ place_routine helper_names c k (omega (arith, l, few)) ∙ last
 
     pub names_apart : AreApart (function_names (program c (routine_name c)))
     names_apart i j name e f = sym (placed i name e) ∙ placed j name f

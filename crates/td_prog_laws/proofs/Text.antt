@@ -435,21 +435,14 @@ module _ (p : Program) (same : p.helpers ≡ prelude) where
         ((refl, omega arith), omega arith),
         (
           refl,
-          omega arith,
-          asked 0 1 0 (refl, refl),
-          ((refl, omega arith), tt),
-          tt,
+          (refl, refl),
           (
             refl,
-            (refl, refl),
+            (refl, omega arith, tt),
             (
-              refl,
-              (refl, omega arith, tt),
-              (
-                (omega arith, refl),
-                (omega arith, (refl, omega arith), (refl, omega arith), (omega arith, (refl, omega arith), (refl, omega arith), (omega arith, (refl, omega arith), (refl, omega arith), (omega arith, (refl, omega arith), (refl, omega arith), (omega arith, (refl, omega arith), (refl, omega arith), (omega arith, (refl, omega arith), (refl, omega arith), (omega arith, (refl, omega arith), (refl, omega arith), (omega arith, (refl, omega arith), (refl, omega arith), (refl, (refl, omega arith), (refl, (refl, omega arith), tt)))))))))),
-                ((refl, omega arith), (omega arith, refl, (refl, refl), (refl, (refl, omega arith), (refl, (refl, omega arith), tt))), tt),
-              ),
+              (omega arith, refl),
+              (refl, omega arith, asked 0 1 0 (refl, refl), ((refl, omega arith), tt), tt, (omega arith, (refl, omega arith), (refl, omega arith), (omega arith, (refl, omega arith), (refl, omega arith), (omega arith, (refl, omega arith), (refl, omega arith), (omega arith, (refl, omega arith), (refl, omega arith), (omega arith, (refl, omega arith), (refl, omega arith), (omega arith, (refl, omega arith), (refl, omega arith), (omega arith, (refl, omega arith), (refl, omega arith), (omega arith, (refl, omega arith), (refl, omega arith), (refl, (refl, omega arith), (refl, (refl, omega arith), (refl, (refl, omega arith), tt)))))))))))),
+              ((refl, refl), (refl, omega arith, asked 0 1 0 (refl, refl), ((refl, omega arith), tt), tt, (omega arith, refl, (refl, refl), (refl, (refl, omega arith), (refl, (refl, omega arith), tt)))), tt),
             ),
           ),
         ),

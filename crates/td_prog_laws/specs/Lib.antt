@@ -1,3 +1,4 @@
 pub mod Text
 pub mod Frames
 pub mod Depth
+pub mod PartsText

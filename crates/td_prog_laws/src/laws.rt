@@ -1,11 +1,13 @@
 //! Laws. They do nothing when they are called.
 
 ghost use Rattle.td_prog_code.specs.Entry.{EntryRuns};
+ghost use Rattle.td_prog_code.specs.PartsEntry.{EntryRunsInParts};
 ghost use Rattle.td_prog_laws.specs.Depth.{ProgramIsShallow};
 ghost use Rattle.td_prog_laws.specs.Frames.{FewFrames};
+ghost use Rattle.td_prog_laws.specs.PartsText.{PartsProgramIsText};
 ghost use Rattle.td_prog_laws.specs.Text.{ProgramIsText};
 
-use td_prog_runs::laws::program_runs;
+use td_prog_runs::laws::{program_runs, program_runs_in_parts};
 use td_verify::laws::sound_code_is_safe;
 use td_verify_runs::laws::{run_stays_within, turn_takes};
 
@@ -35,4 +37,20 @@ pub fn entry_runs()
     program_runs();
     run_stays_within();
     few_frames();
+}
+
+/// The C function of an entry point for messages in pieces tells its caller what the code's run tells.
+pub fn entry_runs_in_parts()
+    ensures { EntryRunsInParts }
+{
+    program_runs_in_parts();
+    run_stays_within();
+    few_frames();
+}
+
+/// A compiler of C accepts the program of verified code for messages in pieces, with td_byte and what it calls as fixed text.
+pub fn parts_program_is_text()
+    ensures { PartsProgramIsText }
+{
+    program_is_text();
 }

@@ -12,9 +12,10 @@ use Rattle.td_image.specs.Laws.{TablesFit, ReadIsWritten}
 use Rattle.td_lower_means.specs.CodeRun.{way_of}
 use Rattle.td_prog.specs.Means.{Out, Gave, Refused, Undefined}
 use Rattle.td_prog_code.specs.Sentence.{IsEnd, ProgramRuns}
+use Rattle.td_prog_code.specs.PartsSentence.{ProgramRunsInParts}
 use Rattle.td_code_means.specs.Laws.{CodeDoesAsMeant, ImageHasCode}
 use Rattle.td_prog_means.proofs.Numbers.{image_numbers}
-use Rattle.td_prog_means.specs.Laws.{Tells, DoesInC, ImagesDoInC, ImagesRunInC}
+use Rattle.td_prog_means.specs.Laws.{Tells, DoesInC, DoesInParts, ImagesDoInC, ImagesDoInParts, ImagesRunInC}
 
 -- an end of the code's run that is a meaning's is told
 told : (n : ℕ) (rooms message : List ℕ) (out : Out) (ending : Ending) → IsEnd n rooms message out (way_of ending)
@@ -42,6 +43,27 @@ does_in_c runs means c m code of numbers names entry size most args cells buffer
             told (length cells) (map length buffers) b out ending (subst (IsEnd (length cells) (map length buffers) b out) mean.way q.0),
           );
     }
+
+pub does_in_parts : ProgramRunsInParts → CodeDoesAsMeant → DoesInParts
+does_in_parts runs means c m code of numbers names entry layout most args cells buffers loads out fits short enough rooms plays values =
+    let r = runs c names entry layout most args cells buffers loads out code of.sound numbers fits short enough rooms plays values in
+    record {
+      rising = r.rising;
+      inside = r.inside;
+      holds = λ b carries bytes.
+          let q = r.holds b carries bytes in
+          let mean = means c m code of entry args cells b fits bytes (subst (λ n. n < 2 ^ 32) (sym carries.size) short) in
+          let ending = (meaning m entry args (opened m entry cells) b).ending in (
+            outcome_of (length cells) b ending,
+            record { same = refl; exact = subst (Exactly layout loads) mean.touched q.1 },
+            told (length cells) (map length buffers) b out ending (subst (IsEnd (length cells) (map length buffers) b out) mean.way q.0),
+          );
+    }
+
+pub images_do_in_parts : DoesInParts → ImageHasCode → ReadIsWritten → ImagesDoInParts
+images_do_in_parts does has read text bytes c is image =
+    let h = has text bytes c is image in
+    (h.0, h.1, does c h.0 h.2 h.3 (image_numbers read bytes c image))
 
 pub images_do_in_c : DoesInC → ImageHasCode → ReadIsWritten → ImagesDoInC
 images_do_in_c does has read text bytes c is image =

@@ -16,7 +16,7 @@ use Rattle.td_image.specs.Laws.{ReadIsWritten}
 use Rattle.td_prog_code.specs.Sentence.{HasNumber, HasNumbers}
 
 -- of rows that fit each
-each_of : {S A : Type 0} (f : S → Format A) (next : S → A → S) (P : A → Type 0) → ((s : S) (x : A) → (f s).Fits x → P x) → (s : S) (xs : List A) → all_fit f next s xs → Each P xs
+pub each_of : {S A : Type 0} (f : S → Format A) (next : S → A → S) (P : A → Type 0) → ((s : S) (x : A) → (f s).Fits x → P x) → (s : S) (xs : List A) → all_fit f next s xs → Each P xs
 unfolding all_fit
 each_of f next P h s [] k = tt
 each_of f next P h s (x ∷ xs) k = (h s x k.0, each_of f next P h (next s x) xs k.1)

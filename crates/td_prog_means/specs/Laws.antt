@@ -7,7 +7,8 @@ use Rattle.td_core.specs.declared.outcome.Outcome.{Outcome}
 use Rattle.td_core.specs.declared.outcome.Verdict.TheVariants.{Accept, Reject}
 use Rattle.td_fetch.specs.Outcomes.{IsMeant}
 use Rattle.td_stream.specs.declared.load.Load.{Load}
-use Rattle.td_stream.specs.Layouts.{plain}
+use Rattle.td_stream.specs.declared.stretch.Stretch.{Stretch}
+use Rattle.td_stream.specs.Layouts.{plain, length_in}
 use Rattle.td_stream.specs.Loads.{IsFetchedOnce, Exactly}
 use Rattle.td_ir.specs.declared.tables.Parts.{Parts}
 use Rattle.td_ir.specs.Tables.{entry_of}
@@ -21,7 +22,9 @@ use Rattle.td_code.specs.Compile.{IsCodeFor, IsImageOf}
 use Rattle.td_prog.specs.Tree.{Plays}
 use Rattle.td_prog.specs.Means.{Out, Gave, Refused, Undefined}
 use Rattle.td_prog.specs.Run.{run}
+use Rattle.td_prog.specs.Pieces.{run_in}
 use Rattle.td_prog_code.specs.Program.{program}
+use Rattle.td_prog_code.specs.PartsPrelude.{parts_program}
 use Rattle.td_prog_code.specs.Sentence.{held, IsEnd, rooms_of, HasNumbers}
 
 -- What the C program's caller is told of an outcome, of an entry point with n cells. Of an accepted message: the position behind it, cells, and copies,
@@ -46,14 +49,30 @@ TellsWhatIsMeant c m =
     IsFetchedOnce (plain size) loads
     (λ b. AreBytes b → (outcome : Outcome) × IsMeant (plain size) m entry args cells b loads outcome × Tells (length cells) out outcome)
 
+-- The same over a message of less than 2^32 bytes that lies in any pieces, of the program that is written for these.
+abbrev pub TellsInParts : Parts → Module → Type 0
+TellsInParts c m =
+    (names : ℕ → List ℕ) (entry : Entry) (layout : List Stretch) (most : ℕ) (args cells : List ℕ) (buffers : List (List ℕ)) (loads : List Load) (out : Out) →
+    Fits c entry args cells → length_in layout < 2 ^ 32 → length_in layout + 1 < most → map length buffers ≡ rooms_of c entry →
+    Plays (run_in layout most (parts_program c names) (entry_of c entry.number).routine args (opened_by c entry cells) buffers) loads out →
+    Each (λ (l : Load). l.value < 2 ^ 64) loads →
+    IsFetchedOnce layout loads (λ b. AreBytes b → (outcome : Outcome) × IsMeant layout m entry args cells b loads outcome × Tells (length cells) out outcome)
+
 -- So does the program of code that is written of a module.
 abbrev pub DoesInC : Type 0
 DoesInC = (c : Parts) (m : Module) → IsCode c → IsCodeFor c m → HasNumbers c → TellsWhatIsMeant c m
+
+abbrev pub DoesInParts : Type 0
+DoesInParts = (c : Parts) (m : Module) → IsCode c → IsCodeFor c m → HasNumbers c → TellsInParts c m
 
 -- So does the program of code that is read of the image of a module's text.
 abbrev pub ImagesDoInC : Type 0
 ImagesDoInC =
     (text bytes : List ℕ) (c : Parts) → IsImageOf text bytes → IsImage c bytes → (m : Module) × IsModuleText text m × TellsWhatIsMeant c m
+
+abbrev pub ImagesDoInParts : Type 0
+ImagesDoInParts =
+    (text bytes : List ℕ) (c : Parts) → IsImageOf text bytes → IsImage c bytes → (m : Module) × IsModuleText text m × TellsInParts c m
 
 -- The program of code that is read of any image, and that the verifier accepts, does what the code does.
 abbrev pub ImagesRunInC : Type 0

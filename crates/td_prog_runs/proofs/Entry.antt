@@ -9,24 +9,30 @@ use Rattle.td_num.specs.declared.number.Width.{Width}
 use Rattle.td_num.specs.declared.number.Width.TheVariants.{One, Two, Four, Eight}
 use Rattle.td_num.specs.Lists.{Each}
 use Rattle.td_num.proofs.Lists.{each_at, each_by, each_append, index_zeros}
+use Rattle.td_core.specs.declared.module.Entry.{Entry}
 use Rattle.td_core.specs.declared.module.CellKind.{CellKind}
 use Rattle.td_core.specs.declared.module.CellKind.TheVariants.{Number, Pointer}
 use Rattle.td_core.specs.Outcome.{copies_by}
 use Rattle.td_ir.specs.declared.instructions.Instr.TheVariants as i
 use Rattle.td_ir.specs.declared.tables.Parts.{Parts}
 use Rattle.td_ir.specs.Tables.{entry_of, routine_of, param_of, cell_of}
-use Rattle.td_ir.specs.Entries.{cell_bits, opened_by, buffers_of}
+use Rattle.td_ir.specs.Entries.{Fits, cell_bits, opened_by, buffers_of}
+use Rattle.td_ir.specs.WellFormed.{IsCode}
 use Rattle.td_ir.specs.State.{Way, Returned, Turned, Failed, Stuck}
 use Rattle.td_ir.specs.Run.{run_routine}
 use Rattle.td_prog.specs.Means.{Out, Gave, Refused, Undefined}
 use Rattle.td_prog.specs.Run.{free_run}
+use Rattle.td_prog.specs.Pieces.{free_run_in}
 use Rattle.td_prog_code.specs.Program.{program}
+use Rattle.td_prog_code.specs.PartsPrelude.{parts_program}
 use Rattle.td_stream.specs.declared.load.Load.{Load}
+use Rattle.td_stream.specs.Layouts.{length_in, count_in}
 use Rattle.td_stream.proofs.Plain.{plain_is}
-use Rattle.td_prog_code.specs.Sentence.{held, IsEnd, HasNumber, HasNumbers, ProgramRuns}
+use Rattle.td_prog_code.specs.Sentence.{held, IsEnd, rooms_of, HasNumber, HasNumbers, ProgramRuns}
+use Rattle.td_prog_code.specs.PartsSentence.{ProgramRunsInParts}
 use Rattle.td_prog_steps.specs.Laid.{AreNumbers}
 use Rattle.td_prog_trees.specs.Agree.{Basis, IsKept}
-use Rattle.td_prog_runs.specs.Theorem.{Start, IsStart, AreEmpty, IsLeftBy, SoundCodeInC}
+use Rattle.td_prog_runs.specs.Theorem.{Start, IsStart, AreEmpty, IsLeftBy, way_on, SoundCodeInC, SoundCodeInParts}
 use Rattle.td_prog_steps.specs.Laws.{basis_of}
 use Rattle.td_prog_trees.specs.Laws.{StaysBelow}
 use Rattle.td_prog_trees.proofs.Guarded.{unguarded}
@@ -93,36 +99,62 @@ ends basis (Refused reason pos trace s) (Failed reason' pos' trace' cells) h = (
 ends basis (Refused reason pos trace s) Stuck h = h
 ends basis Undefined w h = absurd h
 
+-- a run from an entry point: the routine's own cells are the entry point's, and buffers hold nothing
+module _ (c : Parts) (names : ℕ → List ℕ) (entry : Entry) (size most : ℕ) (args cells : List ℕ) (buffers : List (List ℕ)) (code : IsCode c)
+    (fits : Fits c entry args cells) where
+  abbrev start : Start
+  start = record {
+    names = names;
+    limit = most;
+    routine = (entry_of c entry.number).routine;
+    size = size;
+    args = args;
+    cells = opened_by c entry cells;
+    buffers = buffers;
+  }
+
+  front : length cells ≡ (routine_of c (entry_of c entry.number).routine).cells
+  front = fits.cell_count ∙ (code.entries entry.number fits.there).cell_count
+
+  is_start : size < 2 ^ 32 → size + 1 < most → map length buffers ≡ rooms_of c entry → IsStart c start
+  is_start short enough rooms =
+      let e = entry_of c entry.number in
+      let n = e.routine in
+      let is = code.entries entry.number fits.there in
+      let behind = length-append cells (replicate (2 * buffers_of c entry) 0) in
+      let zeros = length-replicate {A = ℕ} (2 * buffers_of c entry) 0 in
+      let sa = each_by (λ v. v < 2 ^ 64) args 0
+      (λ k h. power_small (slice_index args k) (8 * bytes_in (param_of e.params k).width) (fits.args_fit k h) (width_small (param_of e.params k).width)) in
+      let sc = each_append (λ v. v < 2 ^ 64) cells (replicate (2 * buffers_of c entry) 0)
+      (each_by (λ v. v < 2 ^ 64) cells 0
+      (λ k h. power_small (slice_index cells k) (cell_bits (cell_of e.cells k).kind) (fits.cells_fit k h) (kind_small (cell_of e.cells k).kind)))
+      (zeros_small (2 * buffers_of c entry)) in
+      let empty : AreEmpty (routine_of c n).cells (length (routine_of c n).buffers) (opened_by c entry cells) = λ b h.
+      (let z : (routine_of c n).cells + 2 * b + 1 ≡ length cells + (2 * b + 1) = omega (arith, front) in ap (slice_index (opened_by c entry cells)) z)
+      ∙ get_or-append-add cells (replicate (2 * buffers_of c entry) 0) (2 * b + 1) 0 ∙ index_zeros (2 * buffers_of c entry) (2 * b + 1) in
+      record {
+        there = is.there;
+        short = short;
+        enough = enough;
+        rooms = rooms;
+        many = omega (arith, behind, zeros, front);
+        empty = empty;
+        args = sa;
+        cells = sc;
+      }
+
+  -- what is left, in the words of the sentence
+  left_so : (b : List ℕ) (out : Out) → IsLeftBy (basis_of c (entry_of c entry.number).routine b buffers) out (way_on c start b)
+      → IsEnd (length cells) (map length buffers) b out (way_on c start b)
+  left_so b out h =
+      subst (λ k. IsEnd k (map length buffers) b out (way_on c start b)) (sym front)
+      (ends (basis_of c (entry_of c entry.number).routine b buffers) out (way_on c start b) h)
+
 pub program_runs : SoundCodeInC → ProgramRuns
 program_runs sound_code c names entry size most args cells buffers loads out code sound nums fits short enough rooms plays values =
-    let e = entry_of c entry.number in
-    let n = e.routine in
-    let is = code.entries entry.number fits.there in
-    let front : length cells ≡ (routine_of c n).cells = fits.cell_count ∙ is.cell_count in
-    let behind = length-append cells (replicate (2 * buffers_of c entry) 0) in
-    let zeros = length-replicate {A = ℕ} (2 * buffers_of c entry) 0 in
-    let sa = each_by (λ v. v < 2 ^ 64) args 0
-    (λ k h. power_small (slice_index args k) (8 * bytes_in (param_of e.params k).width) (fits.args_fit k h) (width_small (param_of e.params k).width)) in
-    let sc = each_append (λ v. v < 2 ^ 64) cells (replicate (2 * buffers_of c entry) 0)
-    (each_by (λ v. v < 2 ^ 64) cells 0
-    (λ k h. power_small (slice_index cells k) (cell_bits (cell_of e.cells k).kind) (fits.cells_fit k h) (kind_small (cell_of e.cells k).kind)))
-    (zeros_small (2 * buffers_of c entry)) in
-    let empty : AreEmpty (routine_of c n).cells (length (routine_of c n).buffers) (opened_by c entry cells) = λ b h.
-    (let z : (routine_of c n).cells + 2 * b + 1 ≡ length cells + (2 * b + 1) = omega (arith, front) in ap (slice_index (opened_by c entry cells)) z)
-    ∙ get_or-append-add cells (replicate (2 * buffers_of c entry) 0) (2 * b + 1) 0 ∙ index_zeros (2 * buffers_of c entry) (2 * b + 1) in
-    let start : Start = record { names = names; limit = most; routine = n; size = size; args = args; cells = opened_by c entry cells; buffers = buffers } in
-    let is_start : IsStart c start = record {
-      there = is.there;
-      short = short;
-      enough = enough;
-      rooms = rooms;
-      many = omega (arith, behind, zeros, front);
-      empty = empty;
-      args = sa;
-      cells = sc;
-    } in
-    let tree = free_run most (program c names) n size args (opened_by c entry cells) buffers in
-    let runs = sound_code c start code sound (numbers c nums) is_start in
+    let begin = start c names entry size most args cells buffers code fits in
+    let tree = free_run most (program c names) (entry_of c entry.number).routine size args (opened_by c entry cells) buffers in
+    let runs = sound_code c begin code sound (numbers c nums) (is_start c names entry size most args cells buffers code fits short enough rooms) in
     let below : StaysBelow ((size + 7) / 8) tree = λ ls y q s. subst (λ k. All (λ (l : Load). l.word < k) ls) ((plain_is size).count)
     (runs ls y q s).inside in
     let r = runs loads out (unguarded ((size + 7) / 8) tree loads out below values plays) values in
@@ -130,9 +162,21 @@ program_runs sound_code c names entry size most args cells buffers loads out cod
       rising = r.rising;
       inside = r.inside;
       holds = λ b carries bytes.
-          let q = r.holds b carries bytes in (
-            let w = (run_routine c n args (opened_by c entry cells) b).way in subst (λ k. IsEnd k (map length buffers) b out w) (sym front)
-                (ends (basis_of c n b buffers) out w q.0),
-            q.1,
-          );
+          let q = r.holds b carries bytes in (left_so c names entry size most args cells buffers code fits b out q.0, q.1);
+    }
+
+pub program_runs_in_parts : SoundCodeInParts → ProgramRunsInParts
+program_runs_in_parts sound_code c names entry layout most args cells buffers loads out code sound nums fits short enough rooms plays values =
+    let size = length_in layout in
+    let begin = start c names entry size most args cells buffers code fits in
+    let tree = free_run_in layout most (parts_program c names) (entry_of c entry.number).routine args (opened_by c entry cells) buffers in
+    let runs = sound_code c begin layout refl code sound (numbers c nums)
+    (is_start c names entry size most args cells buffers code fits short enough rooms) in
+    let below : StaysBelow (count_in layout) tree = λ ls y q s. (runs ls y q s).inside in
+    let r = runs loads out (unguarded (count_in layout) tree loads out below values plays) values in
+    record {
+      rising = r.rising;
+      inside = r.inside;
+      holds = λ b carries bytes.
+          let q = r.holds b carries bytes in (left_so c names entry size most args cells buffers code fits b out q.0, q.1);
     }

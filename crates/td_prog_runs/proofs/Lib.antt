@@ -1,3 +1,4 @@
+mod PartsMemory
 mod Sentence
 mod OpenLoops
 pub mod Laying

@@ -12,7 +12,7 @@ use Rattle.td_verify.specs.Verify.{IsIn, IsSound}
 use Rattle.td_verify.specs.Safe.{IsSafe}
 use Rattle.td_verify_runs.specs.Laws.{RunAnswers, TurnTakes}
 use Rattle.td_prog_steps.specs.Laid.{IsBusy}
-use Rattle.td_prog_runs.specs.Theorem.{CodeInC, SoundCodeInC}
+use Rattle.td_prog_runs.specs.Theorem.{CodeInC, CodeInParts, SoundCodeInC, SoundCodeInParts}
 use Rattle.td_prog_runs.proofs.Laying.{sound_is_laid}
 
 both_so : (a b : Bool) → a ≡ true → b ≡ true → (a && b) ≡ true
@@ -27,4 +27,9 @@ busy takes c code sound message places n pc q i is s t h l e =
 pub sound_code_in_c : ((c : Parts) → IsCode c → IsSound c → IsSafe c) → RunAnswers → TurnTakes → CodeInC → SoundCodeInC
 sound_code_in_c safe_of answers takes code_in_c c start code sound numbers is =
     code_in_c c start (sound_is_laid c code sound (safe_of c code sound) numbers (busy takes c code sound)) is
+    (λ b long bytes. answers c start.routine start.args start.cells b code sound is.there)
+
+pub sound_code_in_parts : ((c : Parts) → IsCode c → IsSound c → IsSafe c) → RunAnswers → TurnTakes → CodeInParts → SoundCodeInParts
+sound_code_in_parts safe_of answers takes code_in_parts c start layout same code sound numbers is =
+    code_in_parts c start layout same (sound_is_laid c code sound (safe_of c code sound) numbers (busy takes c code sound)) is
     (λ b long bytes. answers c start.routine start.args start.cells b code sound is.there)

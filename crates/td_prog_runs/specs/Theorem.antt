@@ -2,7 +2,8 @@
 use Rattle.std.specs.Prelude.{◌≡◌, ℕ, ◌+◌, ◌*◌, ◌^◌, ◌<◌, List, length, map, take, slice_index}
 use Rattle.td_num.specs.Lists.{Each, AreBytes}
 use Rattle.td_stream.specs.declared.load.Load.{Load}
-use Rattle.td_stream.specs.Layouts.{plain}
+use Rattle.td_stream.specs.declared.stretch.Stretch.{Stretch}
+use Rattle.td_stream.specs.Layouts.{plain, length_in}
 use Rattle.td_stream.specs.Loads.{IsFetchedOnce, Exactly}
 use Rattle.td_ir.specs.declared.tables.Parts.{Parts}
 use Rattle.td_ir.specs.Tables.{routine_of}
@@ -14,7 +15,9 @@ use Rattle.td_verify_runs.specs.Laws.{IsAnswer}
 use Rattle.td_prog.specs.Tree.{Plays}
 use Rattle.td_prog.specs.Means.{Out, Gave, Refused, Undefined}
 use Rattle.td_prog.specs.Run.{free_run}
+use Rattle.td_prog.specs.Pieces.{free_run_in}
 use Rattle.td_prog_code.specs.Program.{program}
+use Rattle.td_prog_code.specs.PartsPrelude.{parts_program}
 use Rattle.td_prog_trees.specs.Agree.{Basis, IsKept}
 use Rattle.td_prog_steps.specs.Laid.{IsWellLaid, AreNumbers}
 use Rattle.td_prog_steps.specs.Laws.{basis_of}
@@ -75,12 +78,32 @@ RunsAsCode c start =
     IsLeftBy (basis_of c start.routine b start.buffers) out (way_on c start b)
     × Exactly (plain start.size) loads (run_routine c start.routine start.args start.cells b).touched)
 
+-- The same over a message that lies in pieces, of the program that is written for these.
+abbrev pub RunsInParts : List Stretch → Parts → Start → Type 0
+RunsInParts layout c start =
+    (loads : List Load) (out : Out) →
+    Plays (free_run_in layout start.limit (parts_program c start.names) start.routine start.args start.cells start.buffers) loads out →
+    Each (λ (l : Load). l.value < 2 ^ 64) loads →
+    IsFetchedOnce layout loads (λ b. AreBytes b →
+    IsLeftBy (basis_of c start.routine b start.buffers) out (way_on c start b)
+    × Exactly layout loads (run_routine c start.routine start.args start.cells b).touched)
+
 -- So does the program of code that is laid well and whose run comes to an answer,
 abbrev pub CodeInC : Type 0
 CodeInC =
     (c : Parts) (start : Start) → IsWellLaid c → IsStart c start →
     ((b : List ℕ) → length b ≡ start.size → AreBytes b → IsAnswer (way_on c start b)) → RunsAsCode c start
 
+abbrev pub CodeInParts : Type 0
+CodeInParts =
+    (c : Parts) (start : Start) (layout : List Stretch) → start.size ≡ length_in layout → IsWellLaid c → IsStart c start →
+    ((b : List ℕ) → length b ≡ start.size → AreBytes b → IsAnswer (way_on c start b)) → RunsInParts layout c start
+
 -- and that of code which the verifier accepts.
 abbrev pub SoundCodeInC : Type 0
 SoundCodeInC = (c : Parts) (start : Start) → IsCode c → IsSound c → AreNumbers c → IsStart c start → RunsAsCode c start
+
+abbrev pub SoundCodeInParts : Type 0
+SoundCodeInParts =
+    (c : Parts) (start : Start) (layout : List Stretch) → start.size ≡ length_in layout → IsCode c → IsSound c → AreNumbers c → IsStart c start →
+    RunsInParts layout c start

@@ -1,5 +1,5 @@
 -- Calls.
-use Rattle.std.proofs.Common.{◌≡◌, ℕ, zero, suc, ◌+◌, ◌-◌, Bool, false, cond, ◌/◌, ◌^◌, ◌<◌, ◌≤◌, List, [], ◌∷◌, ◌++◌, length, length-append, map, ◌*◌, append-nil, length-drop, refl, sym, ap, ◌∙◌, subst, arith, slice_index}
+use Rattle.std.proofs.Common.{◌≡◌, ℕ, zero, suc, ◌+◌, ◌-◌, Bool, false, cond, ◌^◌, ◌<◌, ◌≤◌, List, [], ◌∷◌, ◌++◌, length, length-append, map, ◌*◌, append-nil, length-drop, refl, sym, ap, ◌∙◌, subst, arith, slice_index}
 use Rattle.td_num.specs.Lists.{Each}
 use Rattle.td_core.specs.Outcome.{frame_at}
 use Rattle.td_core.specs.declared.outcome.Reason.{Reason}
@@ -21,7 +21,7 @@ use Rattle.td_prog.specs.Syntax.{Block}
 use Rattle.td_prog.specs.Values.{Locals}
 use Rattle.td_prog.specs.Means.{Out, Gave, Refused, Undefined, Continuation, Labels, after_routine}
 use Rattle.td_prog_code.specs.Instructions.{statement, spot}
-use Rattle.td_prog_trees.specs.Agree.{state_of, IsGood, IsReturn, IsFailure, AgreesBy, Agrees, IsOnward, fresh, behind, IsForward, called_at}
+use Rattle.td_prog_trees.specs.Agree.{state_of, IsGood, IsReturn, IsFailure, AgreesBy, Agrees, IsOnward, fresh, behind, reached, IsForward, called_at}
 use Rattle.td_verify.specs.Operands.{IsCellMap}
 use Rattle.td_prog_steps.specs.Laid.{OwnFits}
 use Rattle.td_prog_trees.proofs.Composing.{agrees_after, again_after, answer_bind, loaded_bind, forward_up}
@@ -60,7 +60,8 @@ take_again (suc k) (x ∷ xs) ys = ap (λ zs. x ∷ zs) (take_again k xs ys)
 
 module _ (activation : Activation) (is : IsActive activation) where
   open activation use {extent, code as c, number as n, places, own, limit, routines}
-  open extent use {memory, basis, to}
+  open extent use {memory, numbering, basis, to}
+  open numbering use {word}
   open basis use {message}
 
   abbrev exit : (State → Exit) → ℕ → State → Exit
@@ -81,7 +82,7 @@ module _ (activation : Activation) (is : IsActive activation) where
     there = bind x (after_routine ty field s go)
 
     returned : (o : Out) (pos : ℕ) (cells touched : List ℕ) (steps : ℕ) → answer memory x ≡ o
-        → IsReturn (called_at extent s) (behind s.next touched) pos cells o → loaded memory x ≡ fresh s.next touched → IsForward s.end s.next touched
+        → IsReturn (called_at extent s) (behind word s.next touched) pos cells o → loaded memory x ≡ fresh word s.next touched → IsForward word s.end s.next touched
         → Agrees extent s.next there (again f (after touched steps (next (record (state_of s) { cells = cells; pos = pos }))))
     returned (Gave v t) pos cells touched steps e q l forward =
         let r = q.1 in
@@ -97,7 +98,7 @@ module _ (activation : Activation) (is : IsActive activation) where
           within = omega (arith, here, r.good.within, r.good.window, r.good.short);
           window = g.window;
           short = g.short;
-          ahead = subst (λ p. t.next ≤ (p + 7) / 8) (sym here) r.good.ahead;
+          ahead = subst (λ p. t.next ≤ reached word p) (sym here) r.good.ahead;
           held = r.good.held;
           regs = g.regs;
           cells = r.good.cells;
@@ -109,17 +110,17 @@ module _ (activation : Activation) (is : IsActive activation) where
           same = answer_bind memory x (after_routine ty field s go) ∙ ap (λ o. answer memory (after_routine ty field s go o)) e ∙ ap
               (λ b. answer memory (on b)) no;
           words = loaded_bind memory x (after_routine ty field s go) ∙ ap (λ ws. ws ++ loaded memory (after_routine ty field s go (answer memory x))) l
-              ∙ ap (λ o. fresh s.next touched ++ loaded memory (after_routine ty field s go o)) e ∙ ap
-              (λ b. fresh s.next touched ++ loaded memory (on b)) no;
+              ∙ ap (λ o. fresh word s.next touched ++ loaded memory (after_routine ty field s go o)) e ∙ ap
+              (λ b. fresh word s.next touched ++ loaded memory (on b)) no;
           behind_them = sym r.then;
-          forward = forward_up s.end to s.next touched (omega (arith, g.window, g.short)) forward;
+          forward = forward_up word s.end to s.next touched (omega (arith, g.window, g.short)) forward;
         })
         (subst (λ v. Agrees extent t.next (go u) (again f (next v))) (λ i. record (state_of s) { cells = r.same i; pos = q.0 i }) (ih u good)))
     returned (Refused reason at trace t) pos cells touched steps e r l forward = absurd r
     returned Undefined pos cells touched steps e r l forward = absurd r
 
     failed : (o : Out) (reason : Reason) (pos : ℕ) (trace : List TraceFrame) (cells touched : List ℕ) (steps : ℕ) → answer memory x ≡ o
-        → IsFailure reason pos trace cells o → loaded memory x ≡ fresh s.next touched → IsForward s.end s.next touched
+        → IsFailure reason pos trace cells o → loaded memory x ≡ fresh word s.next touched → IsForward word s.end s.next touched
         → Agrees extent s.next there
         (record { way = Failed reason pos (trace ++ frame c k (state_of s) reason ∷ []) cells; touched = touched; steps = steps })
     failed (Gave v t) reason pos trace cells touched steps e r l forward = absurd r
@@ -135,7 +136,7 @@ module _ (activation : Activation) (is : IsActive activation) where
           ),
           loaded_bind memory x (after_routine ty field s go) ∙ ap (λ o. loaded memory x ++ loaded memory (after_routine ty field s go o)) e ∙ append-nil
               (loaded memory x) ∙ l,
-          forward_up s.end to s.next touched (omega (arith, g.window, g.short)) forward,
+          forward_up word s.end to s.next touched (omega (arith, g.window, g.short)) forward,
         )
     failed Undefined reason pos trace cells touched steps e r l forward = absurd r
 

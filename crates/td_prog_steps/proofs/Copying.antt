@@ -1,5 +1,5 @@
 -- The instruction Copy.
-use Rattle.std.proofs.Common.{◌≡◌, ℕ, ◌+◌, ◌*◌, ◌/◌, ◌%◌, ◌^◌, ◌<◌, ◌≤◌, inl, inr, Bool, true, false, cond, min, List, [], ◌∷◌, length, map, refl, sym, ap, ◌∙◌, subst, arith, slice_index, slice_set, length-set, take}
+use Rattle.std.proofs.Common.{◌≡◌, ℕ, ◌+◌, ◌*◌, ◌%◌, ◌^◌, ◌<◌, ◌≤◌, inl, inr, Bool, true, false, cond, min, List, [], ◌∷◌, length, map, refl, sym, ap, ◌∙◌, subst, arith, slice_index, slice_set, length-set, take}
 use Rattle.std.specs.Prelude.{nat_lt, nat_eq, slice_index_or, ◌⊎◌}
 use Rattle.std.proofs.lemmas.Bool.{cases_lt, cases_eq, ltb-true, ltb-false}
 use Rattle.std.proofs.Math.Nat.{min-eq_left, min-eq_right}
@@ -14,22 +14,22 @@ use Rattle.td_prog.specs.Tree.{Tree, bind}
 use Rattle.td_prog.specs.Syntax.{Number, Block}
 use Rattle.td_prog.specs.Values.{Locals}
 use Rattle.td_prog.specs.Means.{Out, Continuation, Labels, after_helper}
-use Rattle.td_prog.specs.Run.{declared, helpers_below}
-use Rattle.td_prog_code.specs.Prelude.{prelude}
+use Rattle.td_prog_code.specs.Prelude.{copy_helper}
 use Rattle.td_prog_code.specs.Instructions.{statement, taken, reg}
-use Rattle.td_prog_trees.specs.Agree.{IsKept, state_of, IsGood, Agrees, IsOnward}
+use Rattle.td_prog_trees.specs.Agree.{reached, IsKept, state_of, IsGood, Agrees, IsOnward}
+use Rattle.td_prog_trees.specs.Readers.{IsCopied}
 use Rattle.td_prog_trees.proofs.Composing.{Leads, agrees_after}
-use Rattle.td_prog_trees.proofs.Leading.{asked}
+use Rattle.td_prog_trees.proofs.Leading.{asked, copied_leads, reached_rises, reached_near}
 use Rattle.td_prog_trees.proofs.Buffers.{IsDone, AreOld}
-use Rattle.td_prog_trees.proofs.CopyHelper.{Copy, Ready, Copied, looping, all_copied}
 use Rattle.td_prog_steps.proofs.Goods.{set_small, other_cell, same_cell, sum_is, end_small}
 use Rattle.td_prog_steps.proofs.Activation.{Activation, IsActive}
 use Rattle.td_prog_steps.proofs.Activation as routine
 use Rattle.td_prog_steps.proofs.Steps.{goes_on, with_room}
 
 module _ (activation : Activation) (is : IsActive activation) where
-  open activation use {extent, code as c, number as n, places, own, limit, routines}
-  open extent use {memory, basis, to}
+  open activation use {extent, code as c, number as n, places, own, limit, helpers, routines}
+  open extent use {memory, numbering, basis, to}
+  open numbering use {word}
   open basis use {message}
 
   abbrev exit : (State → Exit) → ℕ → State → Exit
@@ -79,7 +79,7 @@ module _ (activation : Activation) (is : IsActive activation) where
           (λ z. apart (omega (arith, z, ep))) (λ z. omega (arith, z, eq)) in
           (λ i. take (size' i) (old b apart i)) ∙ g.copies b h ∙ (λ i. map (slice_index message) (places_from (sym at' i) (sym size' i)))
 
-  good_copied : (s : Locals) (n h k v p q mo num : ℕ) (bs : List (List ℕ)) → k ≤ v → s.pos + v ≤ s.end → n ≤ (s.pos + k + 7) / 8
+  good_copied : (s : Locals) (n h k v p q mo num : ℕ) (bs : List (List ℕ)) → k ≤ v → s.pos + v ≤ s.end → n ≤ reached word (s.pos + k)
       → ((w : ℕ) → n ≡ w + 1 → h ≡ memory w) → IsKept basis (slice_set (slice_set s.cells p s.pos) q k) bs → IsGood extent s
       → IsGood extent (record s {
         next = n;
@@ -97,7 +97,7 @@ module _ (activation : Activation) (is : IsActive activation) where
     within = l;
     window = g.window;
     short = g.short;
-    ahead = omega (arith, ahead, few);
+    ahead = let r = reached_rises numbering (s.pos + k) (s.pos + v) (omega (arith, few)) in omega (arith, ahead, r);
     held = held;
     regs = g.regs;
     cells = set_small (slice_set s.cells p s.pos) q k (let e = end_small extent s is.within g in omega (arith, few, l, e))
@@ -122,8 +122,11 @@ module _ (activation : Activation) (is : IsActive activation) where
     case_copy size buffer site a there s g =
         with_room activation is f pc v site (i.Copy size buffer site) s
         (record { flow = Goes (pc + 1) next; touched = places_from s.pos k; steps = 1 + k }) tree a g refl
-        (λ e h. step e h (all_copied copy limit u k (let q = min_below v r in omega (arith, q.0, h, g.window, g.short, is.enough, is.within.inside))
-        (ready h)))
+        (λ e h.
+        let q = min_below v r in
+        let fits = is.fits.rooms buffer there in
+        step e h (is.reads.copy x s.pos k (stored k) (omega (arith, q.0, h, g.window, g.short, is.within.inside))
+        (omega (arith, q.0, h, g.window, g.short, is.enough, is.within.inside)) g.kept.lengths (omega (arith, q.1, fits)) g.ahead g.held))
       where
         v : ℕ
         v = slice_index s.regs size
@@ -156,7 +159,7 @@ module _ (activation : Activation) (is : IsActive activation) where
         onward = begin (taken (reg size) rest) go around
 
         asking : ℕ → Tree Out
-        asking mo = bind (helpers_below limit prelude 9 8 (s.pos ∷ mo ∷ []) (x ∷ []) (stored mo)) (after_helper Number (stored mo) onward)
+        asking mo = bind (helpers copy_helper (s.pos ∷ mo ∷ []) (x ∷ []) (stored mo)) (after_helper Number (stored mo) onward)
 
         tree : Tree Out
         tree = cond (nat_eq (bit (nat_lt v r)) 0) (asking r) (asking v)
@@ -168,39 +171,10 @@ module _ (activation : Activation) (is : IsActive activation) where
             by true e = ap (λ b. cond (nat_eq (bit b) 0) (asking r) (asking v)) e ∙ ap asking (lesser v r true e)
             by false e = ap (λ b. cond (nat_eq (bit b) 0) (asking r) (asking v)) e ∙ ap asking (lesser v r false e)
 
-        copy : Copy
-        copy = record {
-          extent = extent;
-          limit = limit;
-          buffer = x;
-          helpers = helpers_below limit prelude 8;
-          base = s.pos;
-          old = s.buffers;
-          within = is.within;
-          is_word = λ w u. refl;
-        }
-
-        u : Locals
-        u = record (declared [] (stored k)) { pos = s.pos; room = k }
-
-        ready : s.pos + v ≤ s.end → Ready copy u k
-        ready h = record {
-          sum = omega arith;
-          fits = (let q = min_below v r in let e = is.fits.rooms buffer there in omega (arith, q.1, e));
-          few = (let q = min_below v r in omega (arith, q.0, h, ends));
-          within = (let q = min_below v r in omega (arith, q.0, h, g.window, g.short));
-          kept = g.kept.lengths;
-          ahead = g.ahead;
-          held = g.held;
-          at = omega arith;
-          done = refl;
-          others = λ b e. refl;
-        }
-
         step : effect c n message places pc (i.Copy size buffer site) (state_of s)
             ≡ record { flow = Goes (pc + 1) next; touched = places_from s.pos k; steps = 1 + k }
             → s.pos + v ≤ s.end
-            → Copied copy (looping copy limit u) u k
+            → IsCopied word memory basis (stored k) (helpers copy_helper (s.pos ∷ k ∷ []) (x ∷ []) (stored k)) x s.pos k
             → Agrees extent s.next tree (exit f pc (state_of s))
         step e h t =
             let z = t.final in
@@ -209,8 +183,11 @@ module _ (activation : Activation) (is : IsActive activation) where
             (record (stored k) { next = z.next; held = z.held; cells = cells; buffers = z.buffers; number = k; pos = p }) in
             let cells = slice_set (slice_set s.cells place s.pos) count k in
             let whole : (s.pos + v) % 2 ^ 64 ≡ s.pos + v = sum_is s.pos v (omega (arith, h, ends)) in
-            let led = asked extent s.next z.next (helpers_below limit prelude 9 8 (s.pos ∷ k ∷ []) (x ∷ []) (stored k)) k z (stored k) Number onward
-            (places_from s.pos k) t.leads in
+            let near = reached_near numbering s.pos in
+            let led = asked extent s.next z.next (helpers copy_helper (s.pos ∷ k ∷ []) (x ∷ []) (stored k)) k z (stored k) Number onward
+            (places_from s.pos k)
+            (copied_leads extent (stored k) (helpers copy_helper (s.pos ∷ k ∷ []) (x ∷ []) (stored k)) x s.pos k t (omega (arith, g.ahead, near))
+            (omega (arith, q.0, h, g.window, g.short))) in
             subst (λ y. Agrees extent s.next y (exit f pc (state_of s))) (sym tree_is)
             (goes_on activation is f pc (pc + 1) (i.Copy size buffer site) s next (places_from s.pos k) (1 + k) (asking k) a (omega arith) l e
             (agrees_after extent s.next z.next (asking k) (on cells (s.pos + v)) (places_from s.pos k) (1 + k) (exit f (pc + 1) next)
@@ -219,4 +196,4 @@ module _ (activation : Activation) (is : IsActive activation) where
             (ih (record (stored k) { next = z.next; held = z.held; cells = cells; buffers = z.buffers; number = k; pos = s.pos + v })
             (good_copied s z.next z.held k v place count k k z.buffers q.0 h t.ahead t.held
             (kept_copied s.cells s.buffers z.buffers x s.pos k place count g.kept (is.fits.place buffer there) (is.fits.count buffer there)
-            (is.fits.there buffer there) t.kept t.done t.others) g))))
+            (is.fits.there buffer there) t.lengths t.copied t.others) g))))

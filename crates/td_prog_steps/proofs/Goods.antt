@@ -1,5 +1,5 @@
 -- What stays of the variables, and room. Cited by other crates.
-use Rattle.std.proofs.Common.{◌≡◌, ℕ, zero, suc, ◌+◌, ◌-◌, ◌/◌, ◌%◌, ◌^◌, ◌<◌, ◌≤◌, true, false, List, [], ◌∷◌, refl, sym, ap, ◌∙◌, arith, slice_index, slice_set, length, map, take, length-set, ◌*◌}
+use Rattle.std.proofs.Common.{◌≡◌, ℕ, zero, suc, ◌+◌, ◌-◌, ◌%◌, ◌^◌, ◌<◌, ◌≤◌, true, false, List, [], ◌∷◌, refl, sym, ap, ◌∙◌, arith, slice_index, slice_set, length, map, take, length-set, ◌*◌}
 use Rattle.std.specs.Prelude.{slice_index_or, nat_lt, nat_le, cond}
 use Rattle.td_num.specs.Numbers.{places_from}
 use Rattle.std.proofs.Math.Nat.{mod-eq_of_lt}
@@ -7,6 +7,7 @@ use Rattle.td_num.specs.Lists.{Each}
 use Rattle.td_prog.specs.Values.{Locals}
 use Rattle.td_prog_trees.specs.Agree.{Extent, IsWithin, IsGood}
 use Rattle.td_prog_trees.proofs.Composing.{by_cases}
+use Rattle.td_prog_trees.proofs.Leading.{reached_rises, reached_is}
 
 pub small_at : (xs : List ℕ) → Each (λ v. v < 2 ^ 64) xs → (k : ℕ) → slice_index xs k < 2 ^ 64
 small_at [] h k = omega arith
@@ -55,7 +56,8 @@ pub has_room : (p v e : ℕ) → nat_le (p + v) e ≡ true → p + v ≤ e
 has_room p v e h = grind arith
 
 module _ (extent : Extent) where
-  open extent use {basis, to}
+  open extent use {numbering, basis, to}
+  open numbering use {word}
 
   pub good_regs : (s : Locals) (k v : ℕ) → v < 2 ^ 64 → IsGood extent s → IsGood extent (record s { regs = slice_set s.regs k v })
   good_regs s k v l g = record {
@@ -107,13 +109,13 @@ module _ (extent : Extent) where
   }
 
   pub good_pos : (s : Locals) (p : ℕ) → s.pos ≤ p → p ≤ s.end → IsGood extent s → IsGood extent (record s { pos = p })
-  good_pos s p l m g = record {
+  good_pos s p l m g = let rises = reached_rises numbering s.pos p l in record {
     begun = g.begun;
     started = omega (arith, g.started, l);
     within = m;
     window = g.window;
     short = g.short;
-    ahead = omega (arith, g.ahead, l);
+    ahead = omega (arith, g.ahead, rises);
     held = g.held;
     regs = g.regs;
     cells = g.cells;
@@ -151,9 +153,9 @@ module _ (extent : Extent) where
   -- the variables after a byte or an element was taken
   pub good_passed : (s : Locals) (w v a b : ℕ) → 0 < w → s.pos + w ≤ s.end → IsGood extent s
       → IsGood extent (record s {
-        next = (s.pos + w - 1) / 8 + 1;
+        next = word (s.pos + w - 1) + 1;
         held = extent.memory
-            ((s.pos + w - 1) / 8);
+            (word (s.pos + w - 1));
         number = v;
         pos = s.pos + w;
         most = a;
@@ -165,8 +167,8 @@ module _ (extent : Extent) where
     within = l;
     window = g.window;
     short = g.short;
-    ahead = omega (arith, some);
-    held = λ k e. let q : (s.pos + w - 1) / 8 ≡ k = omega (arith, e) in ap extent.memory q;
+    ahead = let r = reached_is numbering s.pos w some in omega (arith, r);
+    held = λ k e. let q : word (s.pos + w - 1) ≡ k = omega (arith, e) in ap extent.memory q;
     regs = g.regs;
     cells = g.cells;
     kept = g.kept;
@@ -189,9 +191,9 @@ module _ (extent : Extent) where
   -- the variables after a number was taken
   pub good_taken : (s : Locals) (w into v : ℕ) → 0 < w → s.pos + w ≤ s.end → v < 2 ^ 64 → IsGood extent s
       → IsGood extent (record s {
-        next = (s.pos + w - 1) / 8 + 1;
+        next = word (s.pos + w - 1) + 1;
         held = extent.memory
-            ((s.pos + w - 1) / 8);
+            (word (s.pos + w - 1));
         regs = slice_set s.regs into v;
         pos = s.pos + w;
       })
@@ -201,8 +203,8 @@ module _ (extent : Extent) where
     within = l;
     window = g.window;
     short = g.short;
-    ahead = omega (arith, some);
-    held = λ k e. let q : (s.pos + w - 1) / 8 ≡ k = omega (arith, e) in ap extent.memory q;
+    ahead = let r = reached_is numbering s.pos w some in omega (arith, r);
+    held = λ k e. let q : word (s.pos + w - 1) ≡ k = omega (arith, e) in ap extent.memory q;
     regs = set_small s.regs into v fits g.regs;
     cells = g.cells;
     kept = g.kept;

@@ -1,5 +1,5 @@
 -- Instructions that load.
-use Rattle.std.proofs.Common.{◌≡◌, ℕ, ◌+◌, ◌-◌, ◌/◌, ◌%◌, ◌^◌, ◌<◌, ◌≤◌, [], ◌∷◌, refl, ap, ◌∙◌, subst, arith, slice_set}
+use Rattle.std.proofs.Common.{◌≡◌, ℕ, ◌+◌, ◌-◌, ◌%◌, ◌^◌, ◌<◌, ◌≤◌, [], ◌∷◌, refl, ap, ◌∙◌, subst, arith, slice_set}
 use Rattle.td_num.specs.Numbers.{places_from, ordered_at}
 use Rattle.td_ir.specs.declared.instructions.Instr.{Instr}
 use Rattle.td_ir.specs.declared.instructions.Instr.TheVariants as i
@@ -12,21 +12,22 @@ use Rattle.td_prog.specs.Tree.{Tree, bind}
 use Rattle.td_prog.specs.Syntax.{Reg, Num, Block}
 use Rattle.td_prog.specs.Values.{Locals}
 use Rattle.td_prog.specs.Means.{Out, Continuation, Labels, after_helper}
-use Rattle.td_prog.specs.Run.{helpers_below}
-use Rattle.td_prog_code.specs.Prelude.{number_helper, prelude}
+use Rattle.td_prog_code.specs.Prelude.{number_helper}
 use Rattle.td_prog_code.specs.Instructions.{statement, taken}
 use Rattle.td_prog_trees.specs.Agree.{state_of, Agrees, IsOnward}
 use Rattle.td_prog_trees.proofs.Composing.{Leads, agrees_after}
-use Rattle.td_prog_trees.proofs.Fetching.{GivesOrdered, number_gives, some_width}
-use Rattle.td_prog_trees.proofs.Leading.{asked}
+use Rattle.td_prog_trees.specs.Readers.{IsTaken}
+use Rattle.td_prog_trees.proofs.Fetching.{some_width}
+use Rattle.td_prog_trees.proofs.Leading.{asked, taken_leads, reached_near}
 use Rattle.td_prog_steps.proofs.Goods.{sum_is, end_small, good_taken}
 use Rattle.td_prog_steps.proofs.Activation.{Activation, IsActive}
 use Rattle.td_prog_steps.proofs.Activation as routine
 use Rattle.td_prog_steps.proofs.Steps.{goes_on, with_room}
 
 module _ (activation : Activation) (is : IsActive activation) where
-  open activation use {extent, code as c, number as n, places, own, limit, routines}
-  open extent use {memory, basis, to}
+  open activation use {extent, code as c, number as n, places, own, limit, helpers, routines}
+  open extent use {memory, numbering, basis, to}
+  open numbering use {word}
   open basis use {message}
 
   abbrev exit : (State → Exit) → ℕ → State → Exit
@@ -48,8 +49,7 @@ module _ (activation : Activation) (is : IsActive activation) where
     case_fetch into order width site a wide s g =
         with_room activation is f pc width site (i.Fetch into order width site) s
         (record { flow = Goes (pc + 1) next; touched = places_from s.pos width; steps = 1 }) tree a g refl
-        (λ e h. step e h (number_gives extent limit is.within s s.pos (omega (arith, g.ahead)) g.held order width wide
-        (omega (arith, h, g.window, g.short))))
+        (λ e h. step e h (is.reads.number order width s.pos s wide (omega (arith, h, g.window, g.short, is.within.inside)) near g.held))
       where
         some : 0 < width
         some = some_width width wide
@@ -61,7 +61,10 @@ module _ (activation : Activation) (is : IsActive activation) where
         next = at_pos (with_reg (state_of s) into (ordered_at (order_of order) message s.pos width)) (s.pos + width)
 
         asking : Tree Out
-        asking = helpers_below limit prelude 9 (number_helper order width) (s.pos ∷ []) [] s
+        asking = helpers (number_helper order width) (s.pos ∷ []) [] s
+
+        near : s.next ≤ word s.pos + 1
+        near = let r = reached_near numbering s.pos in omega (arith, g.ahead, r)
 
         onward : Continuation
         onward = begin (taken (Num width) rest) go around
@@ -72,17 +75,17 @@ module _ (activation : Activation) (is : IsActive activation) where
         step : effect c n message places pc (i.Fetch into order width site) (state_of s)
             ≡ record { flow = Goes (pc + 1) next; touched = places_from s.pos width; steps = 1 }
             → s.pos + width ≤ s.end
-            → GivesOrdered extent limit is.within asking s order s.pos width → Agrees extent s.next tree (exit f pc (state_of s))
+            → IsTaken word memory s asking (places_from s.pos width) v (word (s.pos + width - 1)) → Agrees extent s.next tree (exit f pc (state_of s))
         step e h t =
-            let q = (s.pos + width - 1) / 8 in
+            let q = word (s.pos + width - 1) in
             let x : Locals → ℕ → ℕ → Tree Out = λ u v p. begin rest go around (record u { regs = slice_set u.regs into v; pos = p }) in
             let held : Locals = record s { next = q + 1; held = memory q } in
             let whole : (s.pos + width) % 2 ^ 64 ≡ s.pos + width = sum_is s.pos width (let m = end_small extent s is.within g in omega (arith, h, m)) in
-            let fits : v < 2 ^ 64 = subst (λ u. u < 2 ^ 64) t.right t.small in
-            let led = asked extent s.next (q + 1) asking t.gives.value t.gives.final s (Reg into) onward (places_from s.pos width) t.gives.leads in
+            let led = asked extent s.next (q + 1) asking v t.final s (Reg into) onward (places_from s.pos width)
+            (taken_leads extent s asking s.pos width v t some near (omega (arith, h, g.window, g.short))) in
             goes_on activation is f pc (pc + 1) (i.Fetch into order width site) s next (places_from s.pos width) 1 tree a (omega arith) l e
             (agrees_after extent s.next (q + 1) tree (x held v (s.pos + width)) (places_from s.pos width) 1 (exit f (pc + 1) next)
             (subst (λ y. Leads extent s.next (q + 1) tree y (places_from s.pos width))
-            ((λ i. x (t.gives.back i) (t.right i) ((s.pos + width) % 2 ^ 64)) ∙ ap (x held v) whole) led)
+            ((λ i. x (t.then i) v ((s.pos + width) % 2 ^ 64)) ∙ ap (x held v) whole) led)
             (ih (record s { next = q + 1; held = memory q; regs = slice_set s.regs into v; pos = s.pos + width })
-            (good_taken extent s width into v some h fits g)))
+            (good_taken extent s width into v some h t.fits g)))

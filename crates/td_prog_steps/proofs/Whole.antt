@@ -1,5 +1,5 @@
 -- The whole program, on memory that stays. Cited by other crates.
-use Rattle.std.proofs.Common.{◌≡◌, ℕ, zero, suc, ◌+◌, ◌-◌, ◌*◌, ◌/◌, ◌^◌, ◌<◌, ◌≤◌, cond, List, [], length, slice_index, replicate, refl, sym, ap, ◌∙◌, subst, arith}
+use Rattle.std.proofs.Common.{◌≡◌, ℕ, zero, suc, ◌+◌, ◌-◌, ◌*◌, ◌^◌, ◌<◌, ◌≤◌, cond, List, [], length, slice_index, replicate, refl, sym, ap, ◌∙◌, subst, arith}
 use Rattle.std.specs.Prelude.{nat_eq}
 use Rattle.td_num.specs.Numbers.{places_from}
 use Rattle.td_num.specs.Lists.{Each}
@@ -17,12 +17,12 @@ use Rattle.std.specs.Prelude.{slice_get, Some, Option}
 use Rattle.td_prog.specs.Tree.{Tree}
 use Rattle.td_prog.specs.Syntax.{Function}
 use Rattle.td_prog.specs.Values.{Locals}
-use Rattle.td_prog.specs.Means.{Out, Routines, nowhere, given, block_means}
-use Rattle.td_prog.specs.Run.{helpers_below, entered, routines_below, started, free_run}
-use Rattle.td_prog_code.specs.Prelude.{prelude}
-use Rattle.td_prog_code.specs.Program.{body, function, functions, program}
-use Rattle.td_prog_trees.specs.Memory.{IsMemory, HasHeld}
-use Rattle.td_prog_trees.specs.Agree.{Basis, Extent, IsWithin, called_at, IsKept, state_of, IsGood, Agrees}
+use Rattle.td_prog.specs.Means.{Out, Helpers, Routines, nowhere, given, block_means}
+use Rattle.td_prog.specs.Run.{entered, routines_over, started, run_from}
+use Rattle.td_prog_code.specs.Program.{body, function, functions}
+use Rattle.td_prog_trees.specs.Memory.{HasHeld}
+use Rattle.td_prog_trees.specs.Readers.{IsReader}
+use Rattle.td_prog_trees.specs.Agree.{Numbering, reached, Basis, Extent, IsWithin, called_at, IsKept, state_of, IsGood, Agrees}
 use Rattle.td_prog_steps.specs.Laid.{IsWellLaid, OwnFits}
 use Rattle.td_prog_steps.specs.Laws.{ProgramAgrees, basis_of}
 use Rattle.td_prog_trees.proofs.Composing.{by_cases}
@@ -34,15 +34,15 @@ zeros_small zero = tt
 zeros_small (suc k) = (omega arith, zeros_small k)
 
 -- what a callee needs of its caller's variables
-record IsCaller (memory : ℕ → ℕ) (basis : Basis) (s : Locals) : Type 0 where
+record IsCaller (numbering : Numbering) (memory : ℕ → ℕ) (basis : Basis) (s : Locals) : Type 0 where
   within : s.pos ≤ s.end
   short : s.end ≤ length basis.message
-  ahead : s.next ≤ (s.pos + 7) / 8
+  ahead : s.next ≤ reached numbering.word s.pos
   held : HasHeld memory s
   cells : Each (λ v. v < 2 ^ 64) s.cells
   kept : IsKept basis s.cells s.buffers
 
-good_caller : (extent : Extent) (s : Locals) → IsWithin extent → IsGood extent s → IsCaller extent.memory extent.basis s
+good_caller : (extent : Extent) (s : Locals) → IsWithin extent → IsGood extent s → IsCaller extent.numbering extent.memory extent.basis s
 good_caller extent s within g = record {
   within = g.within;
   short = omega (arith, within.inside, g.window, g.short);
@@ -53,7 +53,7 @@ good_caller extent s within g = record {
 }
 
 -- a function's first variables
-good_opened : (extent : Extent) (registers : ℕ) (args : List ℕ) (s : Locals) → Each (λ v. v < 2 ^ 64) args → IsCaller extent.memory extent.basis s
+good_opened : (extent : Extent) (registers : ℕ) (args : List ℕ) (s : Locals) → Each (λ v. v < 2 ^ 64) args → IsCaller extent.numbering extent.memory extent.basis s
     → IsGood (called_at extent s) (record (entered registers args s) { start = s.pos; outer = s.end })
 good_opened extent registers args s small g = record {
   begun = omega arith;
@@ -81,16 +81,17 @@ function_count : (c : Parts) (names : ℕ → List ℕ) (count first : ℕ) → 
 function_count c names zero first = refl
 function_count c names (suc count) first = ap suc (function_count c names count (first + 1))
 
-module _ (memory : ℕ → ℕ) (basis : Basis) (c : Parts) (names : ℕ → List ℕ) (limit : ℕ) (holds : IsMemory memory basis.message)
+module _ (numbering : Numbering) (memory : ℕ → ℕ) (basis : Basis) (c : Parts) (names : ℕ → List ℕ) (limit : ℕ) (helpers : Helpers)
+    (reads : IsReader numbering memory basis limit helpers)
     (short : length basis.message < 2 ^ 32) (enough : length basis.message + 1 < limit) (laid : IsWellLaid c) where
   open basis use {message}
 
   -- the whole message
   abbrev extent : Extent
-  extent = record { memory = memory; basis = basis; from = 0; to = length message }
+  extent = record { memory = memory; numbering = numbering; basis = basis; from = 0; to = length message }
 
   abbrev table : ℕ → Routines
-  table k = routines_below limit (program c names) k
+  table k = routines_over helpers limit (functions c names 0 (length c.routines)) k
 
   -- the code's exit from a routine that is called with these variables
   abbrev exit : ℕ → (args places : List ℕ) → Locals → Exit
@@ -99,28 +100,29 @@ module _ (memory : ℕ → ℕ) (basis : Basis) (c : Parts) (names : ℕ → Lis
   -- the functions of routines below k do what the routines do
   abbrev Calls : ℕ → Type 0
   Calls k =
-      (m : ℕ) → m < k → (args places own : List ℕ) (s : Locals) → OwnFits c basis m places own → IsCaller memory basis s → Each (λ v. v < 2 ^ 64) args →
+      (m : ℕ) → m < k → (args places own : List ℕ) (s : Locals) → OwnFits c basis m places own → IsCaller numbering memory basis s → Each (λ v. v < 2 ^ 64) args →
       Agrees (called_at extent s) s.next (table k m args places own s) (exit m args places s)
 
   -- routine k, where those below it do what they should
-  one : (k : ℕ) → k < length c.routines → Calls k → (args places own : List ℕ) (s : Locals) → OwnFits c basis k places own → IsCaller memory basis s
+  one : (k : ℕ) → k < length c.routines → Calls k → (args places own : List ℕ) (s : Locals) → OwnFits c basis k places own → IsCaller numbering memory basis s
       → Each (λ v. v < 2 ^ 64) args
       → Agrees (called_at extent s) s.next
-      ((block_means limit (helpers_below limit prelude 9) (table k) places own (body c k) nowhere []).0 (entered (routine_of c k).registers args s))
+      ((block_means limit helpers (table k) places own (body c k) nowhere []).0 (entered (routine_of c k).registers args s))
       (exit k args places s)
   one k l ih args places own s fit g small =
       body_right activation is (laid.divided k l) (begin_up (lengths_of c) k (suc k) (omega arith)) (laid.laid message places k l) (laid.some k l)
       (entered (routine_of c k).registers args s) (good_opened extent (routine_of c k).registers args s small g)
     where
       activation : Activation
-      activation = record { extent = called_at extent s; code = c; number = k; places = places; own = own; limit = limit; routines = table k }
+      activation = record { extent = called_at extent s; code = c; number = k; places = places; own = own; limit = limit; helpers = helpers; routines = table k }
 
       inside : IsWithin (called_at extent s)
-      inside = record { holds = holds; short = short; inside = g.short }
+      inside = record { short = short; inside = g.short }
 
       is : IsActive activation
       is = record {
         within = inside;
+        reads = reads;
         enough = enough;
         fits = fit;
         below = λ m h args places own u fits v sm. ih m h args places own u fits (good_caller (called_at extent s) u inside v) sm;
@@ -129,7 +131,7 @@ module _ (memory : ℕ → ℕ) (basis : Basis) (c : Parts) (names : ℕ → Lis
   calls_right : (k : ℕ) → k ≤ length c.routines → Calls k
   calls_right zero l m h args places own s fit g small = absurd (omega (arith, h))
   calls_right (suc k) l m h args places own s fit g small =
-      by_cases (λ b. Agrees (called_at extent s) s.next (cond b (called (slice_get (program c names).routines k)) (table k m args places own s))
+      by_cases (λ b. Agrees (called_at extent s) s.next (cond b (called (slice_get (functions c names 0 (length c.routines)) k)) (table k m args places own s))
       (exit m args places s)) (nat_eq m k)
       (λ e.
       subst (λ o. Agrees (called_at extent s) s.next (called o) (exit m args places s)) (sym there)
@@ -138,15 +140,16 @@ module _ (memory : ℕ → ℕ) (basis : Basis) (c : Parts) (names : ℕ → Lis
       (λ e. calls_right k (omega (arith, l)) m (below_other m k h e) args places own s fit g small)
     where
       called : Option Function → Tree Out
-      called o = given o (λ f. (block_means limit (helpers_below limit prelude 9) (table k) places own f.body nowhere []).0 (entered f.registers args s))
+      called o = given o (λ f. (block_means limit helpers (table k) places own f.body nowhere []).0 (entered f.registers args s))
 
-      there : slice_get (program c names).routines k ≡ Some (function c names k)
+      there : slice_get (functions c names 0 (length c.routines)) k ≡ Some (function c names k)
       there = function_at c names (length c.routines) 0 k (omega (arith, l)) ∙ (let e : 0 + k ≡ k = omega arith in ap (λ n. Some (function c names n)) e)
 
   run_right : (n : ℕ) → n < length c.routines → (args cells : List ℕ) (buffers : List (List ℕ)) → IsKept basis cells buffers
       → basis.lengths ≡ (routine_of c n).buffers → basis.first ≡ (routine_of c n).cells
       → Each (λ v. v < 2 ^ 64) args → Each (λ v. v < 2 ^ 64) cells
-      → Agrees extent 0 (free_run limit (program c names) n (length message) args cells buffers) (run_routine c n args cells message)
+      → Agrees extent 0 (run_from (table (length (functions c names 0 (length c.routines)))) n (length message) args cells buffers)
+      (run_routine c n args cells message)
   run_right n l args cells buffers kept same front sa sc =
       let s = started (length message) cells buffers in
       subst (λ k. Agrees extent 0 (table k n args (places_from 0 (length cells)) (places_from 0 (length buffers)) s) (run_routine c n args cells message))
@@ -178,5 +181,6 @@ module _ (memory : ℕ → ℕ) (basis : Basis) (c : Parts) (names : ℕ → Lis
       }
 
 pub program_agrees : ProgramAgrees
-program_agrees memory c names message limit n args cells buffers is short enough laid there rooms kept small small_cells =
-    run_right memory (basis_of c n message buffers) c names limit is short enough laid n there args cells buffers kept rooms refl small small_cells
+program_agrees numbering memory c names helpers message limit n args cells buffers reads short enough laid there rooms kept small small_cells =
+    run_right numbering memory (basis_of c n message buffers) c names limit helpers reads short enough laid n there args cells buffers kept rooms refl
+    small small_cells

@@ -1,5 +1,5 @@
 -- The instruction Zeros.
-use Rattle.std.proofs.Common.{◌≡◌, ℕ, zero, suc, ◌+◌, ◌-◌, ◌/◌, ◌%◌, ◌^◌, ◌<◌, ◌≤◌, inl, true, false, cond, List, [], ◌∷◌, Option, Some, None, refl, sym, ap, ◌∙◌, subst, arith}
+use Rattle.std.proofs.Common.{◌≡◌, ℕ, zero, suc, ◌+◌, ◌-◌, ◌%◌, ◌^◌, ◌<◌, ◌≤◌, inl, true, false, cond, List, [], ◌∷◌, Option, Some, None, refl, sym, ap, ◌∙◌, subst, arith}
 use Rattle.std.specs.Prelude.{nat_eq}
 use Rattle.std.proofs.lemmas.Bool.{ne_eqb}
 use Rattle.td_num.specs.Numbers.{places_from, rising_at}
@@ -17,21 +17,20 @@ use Rattle.td_prog.specs.Tree.{Tree, bind}
 use Rattle.td_prog.specs.Syntax.{Pos, End, Number, Ne, Num, Get, Binary, Block, Ends, If, CallHelper}
 use Rattle.td_prog.specs.Values.{Locals, value}
 use Rattle.td_prog.specs.Means.{Out, Continuation, Labels, after_helper, turns}
-use Rattle.td_prog.specs.Run.{helpers_below}
-use Rattle.td_prog_code.specs.Prelude.{number_helper, little_helper, prelude}
+use Rattle.td_prog_code.specs.Prelude.{number_helper, little_helper}
 use Rattle.td_prog_code.specs.Instructions.{statement, taken, failure}
 use Rattle.td_prog_trees.specs.Agree.{state_of, IsGood, Agrees, IsOnward}
 use Rattle.td_prog_trees.proofs.Composing.{by_cases, Leads, agrees_after}
-use Rattle.td_prog_trees.proofs.Fetching.{number_gives}
-use Rattle.td_prog_trees.proofs.Leading.{asked}
+use Rattle.td_prog_trees.proofs.Leading.{asked, taken_leads, reached_near}
 use Rattle.td_prog_steps.proofs.Goods.{sum_is, start_small, end_small, good_passed}
 use Rattle.td_prog_steps.proofs.Activation.{Activation, IsActive}
 use Rattle.td_prog_steps.proofs.Activation as routine
 use Rattle.td_prog_steps.proofs.Steps.{goes_on, fails, failed_at, failed_there}
 
 module _ (activation : Activation) (is : IsActive activation) where
-  open activation use {extent, code as c, number as n, places, limit}
-  open extent use {memory, basis}
+  open activation use {extent, code as c, number as n, places, limit, helpers}
+  open extent use {memory, numbering, basis}
+  open numbering use {word}
   open basis use {message}
 
   abbrev exit : (State → Exit) → ℕ → State → Exit
@@ -96,7 +95,7 @@ module _ (activation : Activation) (is : IsActive activation) where
         there = omega (arith, e)
 
         asking : Tree Out
-        asking = helpers_below limit prelude 9 (number_helper 0 1) (s.pos ∷ []) [] s
+        asking = helpers (number_helper 0 1) (s.pos ∷ []) [] s
 
         onward : Continuation
         onward = (routine.meaning activation (If (Get Number) (failure c n Padding (Get Pos) site Ends) (taken (Num 1) Ends)) (looping m) []).0
@@ -108,16 +107,19 @@ module _ (activation : Activation) (is : IsActive activation) where
         v = rising_at message s.pos 1
 
         q : ℕ
-        q = (s.pos + 1 - 1) / 8
+        q = word (s.pos + 1 - 1)
 
         seen : (v p : ℕ) → Locals
         seen v p = record s { next = q + 1; held = memory q; number = v; pos = p }
 
         led : Leads extent s.next (q + 1) tree (onward (seen v s.pos)) (places_from s.pos 1)
         led =
-            let t = number_gives extent limit is.within s s.pos (omega (arith, u.ahead)) u.held 0 1 (inl refl) (omega (arith, there, u.window, u.short)) in
-            subst (λ y. Leads extent s.next (q + 1) tree y (places_from s.pos 1)) (λ i. onward (record (t.gives.back i) { number = t.right i }))
-            (asked extent s.next (q + 1) asking t.gives.value t.gives.final s Number onward (places_from s.pos 1) t.gives.leads)
+            let r = reached_near numbering s.pos in
+            let near : s.next ≤ word s.pos + 1 = omega (arith, u.ahead, r) in
+            let t = is.reads.number 0 1 s.pos s (inl refl) (omega (arith, there, u.window, u.short, is.within.inside)) near u.held in
+            subst (λ y. Leads extent s.next (q + 1) tree y (places_from s.pos 1)) (λ i. onward (record (t.then i) { number = v }))
+            (asked extent s.next (q + 1) asking v t.final s Number onward (places_from s.pos 1)
+            (taken_leads extent s asking s.pos 1 v t (omega arith) near (omega (arith, there, u.window, u.short))))
 
         whole : (s.pos + 1) % 2 ^ 64 ≡ s.pos + 1
         whole = sum_is s.pos 1 (let m = end_small extent s is.within u in omega (arith, there, m))

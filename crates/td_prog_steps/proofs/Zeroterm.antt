@@ -19,22 +19,22 @@ use Rattle.td_prog.specs.Tree.{Tree, bind}
 use Rattle.td_prog.specs.Syntax.{Pos, Number, Most, Room, Sub, Eq, Num, Get, Binary, Block, Ends, Assign, CallHelper}
 use Rattle.td_prog.specs.Values.{Locals, value}
 use Rattle.td_prog.specs.Means.{Out, Continuation, Labels, given, after_helper, turns}
-use Rattle.td_prog.specs.Run.{helpers_below}
-use Rattle.td_prog_code.specs.Prelude.{number_helper, little_helper, prelude}
+use Rattle.td_prog_code.specs.Prelude.{number_helper, little_helper}
 use Rattle.td_prog_code.specs.Instructions.{statement, taken, fails as fails_block}
 use Rattle.td_prog_trees.specs.Agree.{state_of, IsGood, AgreesBy, Agrees, IsOnward}
 use Rattle.td_prog_trees.proofs.Composing.{by_cases, Leads, agrees_after}
 use Rattle.td_prog_trees.proofs.Numbers.{quotient_small}
-use Rattle.td_prog_trees.proofs.Fetching.{number_gives, some_width}
-use Rattle.td_prog_trees.proofs.Leading.{asked, places_split}
+use Rattle.td_prog_trees.proofs.Fetching.{some_width}
+use Rattle.td_prog_trees.proofs.Leading.{asked, taken_leads, reached_near, places_split}
 use Rattle.td_prog_steps.proofs.Goods.{small_at, left_is, sum_is, start_small, end_small, good_passed, good_counted}
 use Rattle.td_prog_steps.proofs.Activation.{Activation, IsActive}
 use Rattle.td_prog_steps.proofs.Activation as routine
 use Rattle.td_prog_steps.proofs.Steps.{goes_on, fails, failed_at, failed_there}
 
 module _ (activation : Activation) (is : IsActive activation) where
-  open activation use {extent, code as c, number as n, places, limit}
-  open extent use {memory, basis}
+  open activation use {extent, code as c, number as n, places, limit, helpers}
+  open extent use {memory, numbering, basis}
+  open numbering use {word}
   open basis use {message}
 
   abbrev exit : (State → Exit) → ℕ → State → Exit
@@ -199,7 +199,7 @@ module _ (activation : Activation) (is : IsActive activation) where
         now = counted s (suc a) (suc b) v
 
         asking : Tree Out
-        asking = helpers_below limit prelude 9 (number_helper 0 w) (s.pos ∷ []) [] now
+        asking = helpers (number_helper 0 w) (s.pos ∷ []) [] now
 
         onward : Continuation
         onward =
@@ -225,7 +225,7 @@ module _ (activation : Activation) (is : IsActive activation) where
         room_here = let q = next_product b w in omega (arith, lb, q, some_bytes)
 
         q : ℕ
-        q = (s.pos + w - 1) / 8
+        q = word (s.pos + w - 1)
 
         seen : (y p a b : ℕ) → Locals
         seen y p a b = record s { next = q + 1; held = memory q; number = y; pos = p; most = a; room = b }
@@ -243,11 +243,14 @@ module _ (activation : Activation) (is : IsActive activation) where
 
         led : Leads extent s.next (q + 1) tree (rounds m (counted there a b x)) (places_from s.pos w)
         led =
-            let t = number_gives extent limit is.within now s.pos (omega (arith, u.ahead)) u.held 0 w wide (omega (arith, room_here, u.window, u.short)) in
+            let r = reached_near numbering s.pos in
+            let near : s.next ≤ word s.pos + 1 = omega (arith, u.ahead, r) in
+            let t = is.reads.number 0 w s.pos now wide (omega (arith, room_here, u.window, u.short, is.within.inside)) near u.held in
             subst (λ y. Leads extent s.next (q + 1) tree y (places_from s.pos w))
-            ((λ i. onward (record (t.gives.back i) { number = t.right i })) ∙
+            ((λ i. onward (record (t.then i) { number = x })) ∙
             (λ i. rounds m (seen x (whole i) (less_one a (omega (arith, la)) i) (less_one b (omega (arith, least)) i))))
-            (asked extent s.next (q + 1) asking t.gives.value t.gives.final now Number onward (places_from s.pos w) t.gives.leads)
+            (asked extent s.next (q + 1) asking x t.final now Number onward (places_from s.pos w)
+            (taken_leads extent now asking s.pos w x t some_bytes near (omega (arith, room_here, u.window, u.short))))
 
         good : IsGood extent there
         good = good_passed extent s w x s.most s.room some_bytes room_here u

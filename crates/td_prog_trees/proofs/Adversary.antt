@@ -20,11 +20,11 @@ rises_on : (m k : ℕ) (ws : List ℕ) → k ≤ m → RisesFrom m ws → RisesF
 rises_on m k [] h r = tt
 rises_on m k (w ∷ ws) h r = (omega (arith, h, r.0), r.1)
 
-pub fresh_rises : (next : ℕ) (ps : List ℕ) → RisesFrom next (fresh next ps)
-fresh_rises next [] = tt
-fresh_rises next (p ∷ ps) =
-    by_cases (λ b. RisesFrom next (cond b (fresh next ps) (p / 8 ∷ fresh (p / 8 + 1) ps))) (nat_lt (p / 8) next)
-    (λ e. fresh_rises next ps) (λ e. (ltb-false (p / 8) next e, fresh_rises (p / 8 + 1) ps))
+pub fresh_rises : (word : ℕ → ℕ) (next : ℕ) (ps : List ℕ) → RisesFrom next (fresh word next ps)
+fresh_rises word next [] = tt
+fresh_rises word next (p ∷ ps) =
+    by_cases (λ b. RisesFrom next (cond b (fresh word next ps) (word p ∷ fresh word (word p + 1) ps))) (nat_lt (word p) next)
+    (λ e. fresh_rises word next ps) (λ e. (ltb-false (word p) next e, fresh_rises word (word p + 1) ps))
 
 -- memory that has another word in one place
 abbrev changed : (ℕ → ℕ) → ℕ → ℕ → ℕ → ℕ
@@ -76,17 +76,24 @@ loads_rise (l ∷ loads) m r = (each_above loads (l.word + 1) l.word (omega arit
 pub plays_rise : PlaysRise
 plays_rise t loads y h p s = loads_rise loads 0 (play_rises t loads y 0 h p s)
 
--- the memory of loads and, where there are none, of a message
-abbrev pub memory_of : List Load → List ℕ → ℕ → ℕ
-memory_of [] b i = rising_at b (8 * i) 8
-memory_of (l ∷ loads) b i = cond (nat_eq i l.word) l.value (memory_of loads b i)
+-- the memory of loads, and where there are none another one
+abbrev pub memory_of : List Load → (ℕ → ℕ) → ℕ → ℕ
+memory_of [] other i = other i
+memory_of (l ∷ loads) other i = cond (nat_eq i l.word) l.value (memory_of loads other i)
 
-pub memory_wordy : (loads : List Load) (b : List ℕ) → AreBytes b → Each (λ (l : Load). l.value < 2 ^ 64) loads → AreWords (memory_of loads b)
-memory_wordy [] b h s i = rising_small b h (8 * i) 8
-memory_wordy (l ∷ loads) b h s i =
-    by_cases (λ v. cond v l.value (memory_of loads b i) < 2 ^ 64) (nat_eq i l.word) (λ e. s.0) (λ e. memory_wordy loads b h s.1 i)
+pub memory_wordy : (loads : List Load) (other : ℕ → ℕ) → AreWords other → Each (λ (l : Load). l.value < 2 ^ 64) loads → AreWords (memory_of loads other)
+memory_wordy [] other h s i = h i
+memory_wordy (l ∷ loads) other h s i =
+    by_cases (λ v. cond v l.value (memory_of loads other i) < 2 ^ 64) (nat_eq i l.word) (λ e. s.0) (λ e. memory_wordy loads other h s.1 i)
 
-holds_more : (loads : List Load) (b : List ℕ) (x : Load) (m : ℕ) → x.word < m → RisesFrom m (map (λ (l : Load). l.word) loads) → (rest : List Load)
+-- the memory of a message at the front of a buffer
+abbrev pub front_memory : List ℕ → ℕ → ℕ
+front_memory b i = rising_at b (8 * i) 8
+
+pub front_wordy : (b : List ℕ) → AreBytes b → AreWords (front_memory b)
+front_wordy b h i = rising_small b h (8 * i) 8
+
+holds_more : (loads : List Load) (b : ℕ → ℕ) (x : Load) (m : ℕ) → x.word < m → RisesFrom m (map (λ (l : Load). l.word) loads) → (rest : List Load)
     → Holds (memory_of rest b) loads → Holds (memory_of (x ∷ rest) b) loads
 holds_more [] b x m h r rest k = tt
 holds_more (l ∷ loads) b x m h r rest k = (
@@ -94,7 +101,7 @@ holds_more (l ∷ loads) b x m h r rest k = (
   holds_more loads b x (l.word + 1) (let q = r.0 in omega (arith, h, q)) r.1 rest k.1,
 )
 
-pub memory_holds : (loads : List Load) (b : List ℕ) (m : ℕ) → RisesFrom m (map (λ (l : Load). l.word) loads) → Holds (memory_of loads b) loads
+pub memory_holds : (loads : List Load) (b : ℕ → ℕ) (m : ℕ) → RisesFrom m (map (λ (l : Load). l.word) loads) → Holds (memory_of loads b) loads
 memory_holds [] b m r = tt
 memory_holds (l ∷ loads) b m r = (
   ap (λ v. cond v l.value (memory_of loads b l.word)) (eq-eqb l.word l.word refl),

@@ -1,5 +1,5 @@
 -- Trees and exits, one behind the other. Cited by other crates.
-use Rattle.std.proofs.Common.{◌≡◌, ℕ, ◌+◌, ◌/◌, ◌≤◌, Bool, true, false, cond, List, [], ◌∷◌, ◌++◌, refl, sym, ap, ◌∙◌, subst, arith, append_assoc}
+use Rattle.std.proofs.Common.{◌≡◌, ℕ, ◌+◌, ◌≤◌, Bool, true, false, cond, List, [], ◌∷◌, ◌++◌, refl, sym, ap, ◌∙◌, subst, arith, append_assoc}
 use Rattle.std.specs.Prelude.{nat_lt}
 use Rattle.std.proofs.lemmas.Bool.{ltb-true}
 use Rattle.td_ir.specs.State.{State, Way, Returned, Turned, Failed, Stuck, Exit, after}
@@ -13,35 +13,35 @@ pub by_cases : (P : Bool → Type 0) (b : Bool) → (b ≡ true → P true) → 
 by_cases P true h k = h refl
 by_cases P false h k = k refl
 
-pub fresh_append : (next : ℕ) (xs ys : List ℕ) → fresh next (xs ++ ys) ≡ fresh next xs ++ fresh (behind next xs) ys
-fresh_append next [] ys = refl
-fresh_append next (p ∷ ps) ys =
+pub fresh_append : (word : ℕ → ℕ) (next : ℕ) (xs ys : List ℕ) → fresh word next (xs ++ ys) ≡ fresh word next xs ++ fresh word (behind word next xs) ys
+fresh_append word next [] ys = refl
+fresh_append word next (p ∷ ps) ys =
     by_cases
     (λ b.
-    cond b (fresh next (ps ++ ys)) (p / 8 ∷ fresh (p / 8 + 1) (ps ++ ys))
-    ≡ cond b (fresh next ps) (p / 8 ∷ fresh (p / 8 + 1) ps) ++ fresh (cond b (behind next ps) (behind (p / 8 + 1) ps)) ys)
-    (nat_lt (p / 8) next) (λ e. fresh_append next ps ys) (λ e. ap (λ ws. p / 8 ∷ ws) (fresh_append (p / 8 + 1) ps ys))
+    cond b (fresh word next (ps ++ ys)) (word p ∷ fresh word (word p + 1) (ps ++ ys))
+    ≡ cond b (fresh word next ps) (word p ∷ fresh word (word p + 1) ps) ++ fresh word (cond b (behind word next ps) (behind word (word p + 1) ps)) ys)
+    (nat_lt (word p) next) (λ e. fresh_append word next ps ys) (λ e. ap (λ ws. word p ∷ ws) (fresh_append word (word p + 1) ps ys))
 
-pub behind_append : (next : ℕ) (xs ys : List ℕ) → behind next (xs ++ ys) ≡ behind (behind next xs) ys
-behind_append next [] ys = refl
-behind_append next (p ∷ ps) ys =
+pub behind_append : (word : ℕ → ℕ) (next : ℕ) (xs ys : List ℕ) → behind word next (xs ++ ys) ≡ behind word (behind word next xs) ys
+behind_append word next [] ys = refl
+behind_append word next (p ∷ ps) ys =
     by_cases
-    (λ b. cond b (behind next (ps ++ ys)) (behind (p / 8 + 1) (ps ++ ys)) ≡ behind (cond b (behind next ps) (behind (p / 8 + 1) ps)) ys)
-    (nat_lt (p / 8) next) (λ e. behind_append next ps ys) (λ e. behind_append (p / 8 + 1) ps ys)
+    (λ b. cond b (behind word next (ps ++ ys)) (behind word (word p + 1) (ps ++ ys)) ≡ behind word (cond b (behind word next ps) (behind word (word p + 1) ps)) ys)
+    (nat_lt (word p) next) (λ e. behind_append word next ps ys) (λ e. behind_append word (word p + 1) ps ys)
 
 -- forward places lead behind their last one
-behind_place : (next p : ℕ) → next ≤ p / 8 + 1 → (ps : List ℕ) → cond (nat_lt (p / 8) next) (behind next ps) (behind (p / 8 + 1) ps) ≡ behind (p / 8 + 1) ps
-behind_place next p l ps =
-    by_cases (λ b. cond b (behind next ps) (behind (p / 8 + 1) ps) ≡ behind (p / 8 + 1) ps) (nat_lt (p / 8) next)
-    (λ e. let h = ltb-true (p / 8) next e in let same : next ≡ p / 8 + 1 = omega (arith, h, l) in ap (λ k. behind k ps) same) (λ e. refl)
+pub behind_place : (word : ℕ → ℕ) (next p : ℕ) → next ≤ word p + 1 → (ps : List ℕ) → cond (nat_lt (word p) next) (behind word next ps) (behind word (word p + 1) ps) ≡ behind word (word p + 1) ps
+behind_place word next p l ps =
+    by_cases (λ b. cond b (behind word next ps) (behind word (word p + 1) ps) ≡ behind word (word p + 1) ps) (nat_lt (word p) next)
+    (λ e. let h = ltb-true (word p) next e in let same : next ≡ word p + 1 = omega (arith, h, l) in ap (λ k. behind word k ps) same) (λ e. refl)
 
-pub forward_append : (to next : ℕ) (xs ys : List ℕ) → IsForward to next xs → IsForward to (behind next xs) ys → IsForward to next (xs ++ ys)
-forward_append to next [] ys h k = k
-forward_append to next (p ∷ ps) ys h k = (h.0, h.1, forward_append to (p / 8 + 1) ps ys h.2 (subst (λ m. IsForward to m ys) (behind_place next p h.0 ps) k))
+pub forward_append : (word : ℕ → ℕ) (to next : ℕ) (xs ys : List ℕ) → IsForward word to next xs → IsForward word to (behind word next xs) ys → IsForward word to next (xs ++ ys)
+forward_append word to next [] ys h k = k
+forward_append word to next (p ∷ ps) ys h k = (h.0, h.1, forward_append word to (word p + 1) ps ys h.2 (subst (λ m. IsForward word to m ys) (behind_place word next p h.0 ps) k))
 
-pub forward_up : (to top next : ℕ) (xs : List ℕ) → to ≤ top → IsForward to next xs → IsForward top next xs
-forward_up to top next [] l h = tt
-forward_up to top next (p ∷ ps) l h = (h.0, omega (arith, l, h.1), forward_up to top (p / 8 + 1) ps l h.2)
+pub forward_up : (word : ℕ → ℕ) (to top next : ℕ) (xs : List ℕ) → to ≤ top → IsForward word to next xs → IsForward word top next xs
+forward_up word to top next [] l h = tt
+forward_up word to top next (p ∷ ps) l h = (h.0, omega (arith, l, h.1), forward_up word to top (word p + 1) ps l h.2)
 
 pub answer_bind : {X Y : Type 0} (memory : ℕ → ℕ) (t : Tree X) (f : X → Tree Y) → answer memory (bind t f) ≡ answer memory (f (answer memory t))
 answer_bind memory (Done x) f = refl
@@ -53,29 +53,30 @@ loaded_bind memory (Done x) f = refl
 loaded_bind memory (Loads word k) f = ap (λ ws. word ∷ ws) (loaded_bind memory (k (memory word)) f)
 
 module _ (extent : Extent) where
-  open extent use {memory, to}
+  open extent use {memory, numbering, to}
+  open numbering use {word}
 
   -- a tree y that loads the words of these places, and then is as x
   pub record Leads (next next' : ℕ) (y x : Tree Out) (touched : List ℕ) : Type 0 where
     pub same : answer memory y ≡ answer memory x
-    pub words : loaded memory y ≡ fresh next touched ++ loaded memory x
-    pub behind_them : behind next touched ≡ next'
-    pub forward : IsForward to next touched
+    pub words : loaded memory y ≡ fresh word next touched ++ loaded memory x
+    pub behind_them : behind word next touched ≡ next'
+    pub forward : IsForward word to next touched
 
-  both_words : (next next' : ℕ) (y x : Tree Out) (touched more : List ℕ) → Leads next next' y x touched → loaded memory x ≡ fresh next' more
-      → loaded memory y ≡ fresh next (touched ++ more)
+  both_words : (next next' : ℕ) (y x : Tree Out) (touched more : List ℕ) → Leads next next' y x touched → loaded memory x ≡ fresh word next' more
+      → loaded memory y ≡ fresh word next (touched ++ more)
   both_words next next' y x touched more l h =
-      l.words ∙ ap (λ ws. fresh next touched ++ ws) (h ∙ ap (λ k. fresh k more) (sym l.behind_them)) ∙ sym (fresh_append next touched more)
+      l.words ∙ ap (λ ws. fresh word next touched ++ ws) (h ∙ ap (λ k. fresh word k more) (sym l.behind_them)) ∙ sym (fresh_append word next touched more)
 
-  both_forward : (next next' : ℕ) (y x : Tree Out) (touched more : List ℕ) → Leads next next' y x touched → IsForward to next' more
-      → IsForward to next (touched ++ more)
-  both_forward next next' y x touched more l h = forward_append to next touched more l.forward (subst (λ k. IsForward to k more) (sym l.behind_them) h)
+  both_forward : (next next' : ℕ) (y x : Tree Out) (touched more : List ℕ) → Leads next next' y x touched → IsForward word to next' more
+      → IsForward word to next (touched ++ more)
+  both_forward next next' y x touched more l h = forward_append word to next touched more l.forward (subst (λ k. IsForward word to k more) (sym l.behind_them) h)
 
   after_by : (next next' : ℕ) (y x : Tree Out) (touched more : List ℕ) (w : Way) → Leads next next' y x touched → AgreesBy extent next' x more w
       → AgreesBy extent next y (touched ++ more) w
   after_by next next' y x touched more (Returned pos cells) l h =
-      let e : behind next' more ≡ behind next (touched ++ more) = ap (λ k. behind k more) (sym l.behind_them) ∙ sym (behind_append next touched more) in (
-        subst (λ o. IsReturn extent (behind next (touched ++ more)) pos cells o) (sym l.same)
+      let e : behind word next' more ≡ behind word next (touched ++ more) = ap (λ k. behind word k more) (sym l.behind_them) ∙ sym (behind_append word next touched more) in (
+        subst (λ o. IsReturn extent (behind word next (touched ++ more)) pos cells o) (sym l.same)
             (subst (λ k. IsReturn extent k pos cells (answer memory x)) e h.0),
         both_words next next' y x touched more l h.1,
         both_forward next next' y x touched more l h.2,

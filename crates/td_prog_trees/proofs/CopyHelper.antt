@@ -9,33 +9,36 @@ use Rattle.td_num.proofs.Truths.{eq_is}
 use Rattle.td_ir.specs.State.{left}
 use Rattle.td_ir.specs.Values.{bit}
 use Rattle.td_prog.specs.Tree.{Tree, Done, bind}
-use Rattle.td_prog.specs.Syntax.{Pos, Low, Number, More, Room, Count, Sub, Shr, Lt, Num, Get, Binary, Block, Ends, Assign, Byte, If, Return}
+use Rattle.td_prog.specs.Syntax.{Low, Number, More, Room, Count, Sub, Shr, Lt, Num, Get, Binary, Block, Ends, Assign, Byte, If, While, Return, CallHelper}
 use Rattle.td_prog.specs.Values.{Locals, value, applied, with_byte}
 use Rattle.td_prog.specs.Means.{Out, Gave, Continuation, Helpers, nowhere, given, after_helper, turns, block_means}
 use Rattle.td_prog.specs.Run.{no_routine}
-use Rattle.td_prog_code.specs.Prelude.{plus, bytes_from, copy_turn}
-use Rattle.td_prog_trees.specs.Agree.{Extent, IsWithin}
+use Rattle.td_prog_code.specs.Prelude.{word_helper, word, bytes_from, copied_by, copy_word, copy_byte, copy_turn}
+use Rattle.td_prog_trees.specs.Agree.{Extent}
 use Rattle.td_prog_trees.proofs.Composing.{Leads}
-use Rattle.td_prog_trees.proofs.Fetching.{word_gives, word_tree, held_word, low_is}
+use Rattle.td_prog_trees.proofs.Fetching.{Plainly, IsPlain, extent_of, word_gives, word_tree, held_word, low_is}
 use Rattle.td_prog_trees.proofs.Leading.{asked, places_split, then, pre, post, same_tree}
 use Rattle.td_prog_trees.proofs.Buffers.{IsDone, AreOld, puts, byte_more, old_more}
 
--- A call of td_copy: its extent, how many turns its loop may take, the run's buffer, the helpers that it may call (td_word is one), where the bytes begin,
+-- A call of td_copy: the memory on which it runs, how many turns its loop may take, the run's buffer, the helpers that it may call (td_word is one), where the bytes begin,
 -- and what buffers held before.
 pub record Copy : Type 0 where
-  pub extent : Extent
+  pub plainly : Plainly
   pub limit : ℕ
   pub buffer : ℕ
   pub helpers : Helpers
   pub base : ℕ
   pub old : List (List ℕ)
-  pub within : IsWithin extent
+  pub within : IsPlain plainly
   pub is_word : (w : ℕ) (s : Locals) → helpers 0 (w ∷ []) [] s ≡ word_tree limit w s
 
 module _ (copy : Copy) where
-  open copy use {extent, limit, buffer, helpers, base, old, within, is_word}
-  open extent use {memory, basis, to}
+  open copy use {plainly, limit, buffer, helpers, base, old, within, is_word}
+  open plainly use {memory, basis, to}
   open basis use {message}
+
+  abbrev extent : Extent
+  extent = extent_of plainly
 
   abbrev pub Lead : (next next' : ℕ) → Tree Out → Tree Out → List ℕ → Type 0
   Lead next next' y z touched = Leads extent next next' y z touched
@@ -105,6 +108,7 @@ module _ (copy : Copy) where
     pub sum : u.count + j ≡ u.room
     pub fits : u.room ≤ slice_index basis.lengths buffer
     pub few : u.room < 2 ^ 32
+    pub enough : u.room < limit
     pub within : u.pos + j ≤ to
     pub kept : map length u.buffers ≡ basis.lengths
     pub ahead : u.next ≤ (u.pos + 7) / 8
@@ -124,23 +128,24 @@ module _ (copy : Copy) where
     pub others : HasOthers final.buffers
 
   -- some bytes, and then the others
-  joined : (tree : Tree Out) (u : Locals) (m a j : ℕ) (bs : List (List ℕ)) (num mo lo k : ℕ)
-      → (let v : Locals = record u { low = lo; number = num; more = mo; next = k + 1; held = memory k; buffers = bs; pos = u.pos + a; count = u.count + a } in
-      Lead u.next (k + 1) tree (looping m v) (places_from u.pos a) → Copied (looping m v) v j → Copied tree u (a + j))
-  joined tree u m a j bs num mo lo k h c =
-      let v : Locals = record u { low = lo; number = num; more = mo; next = k + 1; held = memory k; buffers = bs; pos = u.pos + a; count = u.count + a } in
-      record {
-        final = c.final;
-        leads = subst (λ t. Lead u.next c.final.next tree (Done (Gave u.room c.final)) t) (sym (places_split u.pos a j))
-            (then extent u.next (k + 1) c.final.next tree (looping m v) (Done (Gave u.room c.final)) (places_from u.pos a)
-            (places_from (u.pos + a) j) h c.leads);
-        cells = c.cells;
-        kept = c.kept;
-        ahead = (let e = c.ahead in omega (arith, e));
-        held = c.held;
-        done = c.done;
-        others = c.others;
-      }
+  joined : (tree rest : Tree Out) (u : Locals) (a j : ℕ) (bs : List (List ℕ)) (num mo k : ℕ)
+      → (let v : Locals = record u { number = num; more = mo; next = k + 1; held = memory k; buffers = bs; pos = u.pos + a; count = u.count + a } in
+      Lead u.next (k + 1) tree rest (places_from u.pos a) → Copied rest v j → Copied tree u (a + j))
+  joined tree rest u a j bs num mo k h c = record {
+    final = c.final;
+    leads = subst (λ t. Lead u.next c.final.next tree (Done (Gave u.room c.final)) t) (sym (places_split u.pos a j))
+        (then extent u.next (k + 1) c.final.next tree rest (Done (Gave u.room c.final)) (places_from u.pos a) (places_from (u.pos + a) j) h c.leads);
+    cells = c.cells;
+    kept = c.kept;
+    ahead = (let e = c.ahead in omega (arith, e));
+    held = c.held;
+    done = c.done;
+    others = c.others;
+  }
+
+  -- two variables don't matter
+  moved : (tree : Tree Out) (u : Locals) (lo mo j : ℕ) → Copied tree (record u { low = lo; more = mo }) j → Copied tree u j
+  moved tree u lo mo j c = record { final = c.final; leads = c.leads; cells = c.cells; kept = c.kept; ahead = c.ahead; held = c.held; done = c.done; others = c.others }
 
   -- nothing is left
   all_done : (m : ℕ) (u : Locals) → Ready u 0 → Copied (looping (suc m) u) u 0
@@ -159,179 +164,196 @@ module _ (copy : Copy) where
         others = r.others;
       }
 
-  module _ (m : ℕ) (u : Locals) (j : ℕ) (r : Ready u (suc j)) where
-    abbrev lo : ℕ
-    lo = (u.pos % 8 * 8) % 2 ^ 64
+  abbrev last_block : Block
+  last_block = If (Binary Lt (Get Count) (Get Room)) copy_byte Ends
 
-    abbrev k : ℕ
-    k = u.pos / 8
+  abbrev words_block : Block
+  words_block = While (Binary Lt (Num 7) (Get More)) copy_word last_block
 
-    abbrev vars : (mo : ℕ) → Locals
-    vars mo = record u { low = lo; number = memory k; more = mo; next = k + 1; held = memory k }
+  abbrev low_block : Block
+  low_block = If (Get Low) (Assign More (Num 0) Ends) words_block
 
-    abbrev last_block : Block
-    last_block =
-        If (Binary Lt (Get More) (Num 8))
-        (Byte 0 (Get Count) (Binary Shr (Get Number) (Get Low)) (Assign Pos (plus (Get Pos) 1) (Assign Count (plus (Get Count) 1) Ends))) Ends
+  -- the word is held
+  word_there : (go : Continuation) (b : Block) (v : Locals) (i : ℕ) → Ready v i → (a : ℕ) → 0 < a → v.pos % 8 + a ≤ 8 → a ≤ i
+      → Lead v.next (v.pos / 8 + 1) (means (CallHelper Number word_helper (word ∷ []) [] b) go v)
+      (means b go (record v { number = memory (v.pos / 8); next = v.pos / 8 + 1; held = memory (v.pos / 8) })) (places_from v.pos a)
+  word_there go b v i r a some l few =
+      let k = v.pos / 8 in
+      let rest = means b go in
+      pre extent v.next (k + 1) (means (CallHelper Number word_helper (word ∷ []) [] b) go v) (bind (word_tree limit k v) (after_helper Number v rest))
+      (rest (record v { number = memory k; next = k + 1; held = memory k })) (places_from v.pos a)
+      (ap (λ t. bind t (after_helper Number v rest)) (is_word k v))
+      (asked extent v.next (k + 1) (word_tree limit k v) (memory k) (held_word memory k v) v Number rest (places_from v.pos a)
+      (word_gives plainly limit v v.pos a k refl (let h = r.ahead in omega (arith, h)) r.held some l (let w = r.within in omega (arith, w, few))))
 
-    abbrev eight_block : Block
-    eight_block = If (Binary Lt (Num 7) (Get More)) (bytes_from 0 8 (Assign Pos (plus (Get Pos) 8) (Assign Count (plus (Get Count) 8) Ends))) last_block
+  byte_there : (v : Locals) (i : ℕ) → Ready v i → (q : ℕ) → q < i → (o : ℕ) → o ≡ v.pos % 8 + q → o < 8
+      → memory (v.pos / 8) / 2 ^ (8 * o) % 256 ≡ slice_index message (base + (v.count + q))
+  byte_there v i r q l o e few =
+      let p : v.pos + q ≡ base + (v.count + q) = (let a = r.at in omega (arith, a)) in
+      let word_is : v.pos / 8 ≡ (v.pos + q) / 8 = omega (arith, e, few) in
+      let place_is : o ≡ (v.pos + q) % 8 = omega (arith, e, few) in
+      (λ z. memory (word_is z) / 2 ^ (8 * (place_is z)) % 256) ∙ within.holds.bytes (v.pos + q) (let w = r.within in omega (arith, w, l, within.inside))
+      ∙ ap (slice_index message) p
 
-    abbrev low_block : Block
-    low_block = If (Get Low) (Assign More (Num 0) Ends) eight_block
+  ready_on : (v : Locals) (i : ℕ) → Ready v i → (a num mo : ℕ) (bs : List (List ℕ)) → map length bs ≡ basis.lengths → HasBytes bs (v.count + a) → HasOthers bs
+      → 0 < a → a ≤ i → v.pos % 8 + a ≤ 8
+      → Ready (record v { number = num; more = mo; next = v.pos / 8 + 1; held = memory (v.pos / 8); buffers = bs; pos = v.pos + a; count = v.count + a }) (i - a)
+  ready_on v i r a num mo bs kept d o some few in_it = record {
+    sum = (let s = r.sum in omega (arith, s, few));
+    fits = r.fits;
+    few = r.few;
+    enough = r.enough;
+    within = (let w = r.within in omega (arith, w, few));
+    kept = kept;
+    ahead = omega (arith, some);
+    held = λ w e. let q : v.pos / 8 ≡ w = omega (arith, e) in ap memory q;
+    at = (let a = r.at in omega (arith, a));
+    done = d;
+    others = o;
+  }
 
+  -- places are small
+  small_pos : (v : Locals) (i a : ℕ) → Ready v i → a ≤ i → (v.pos + a) % 2 ^ 64 ≡ v.pos + a
+  small_pos v i a r few = mod-eq_of_lt (let w = r.within in let z : v.pos + a < 2 ^ 64 = omega (arith, w, few, within.short, within.inside) in z)
+
+  small_count : (v : Locals) (i a : ℕ) → Ready v i → a ≤ i → (v.count + a) % 2 ^ 64 ≡ v.count + a
+  small_count v i a r few = mod-eq_of_lt (let s = r.sum in let f = r.few in let z : v.count + a < 2 ^ 64 = omega (arith, s, f, few) in z)
+
+  -- a turn, where those after it copy what is left
+  module _ (m j : ℕ) (rec : (w : Locals) (i : ℕ) → i ≤ j → Ready w i → Copied (looping m w) w i) where
     abbrev doing : Block → Continuation
     doing b = means b (looping m)
 
-    -- the word is held
-    word_there : (a : ℕ) → 0 < a → u.pos % 8 + a ≤ 8 → a ≤ suc j
-        → Lead u.next (k + 1) (doing copy_turn u) (doing low_block (vars (suc j))) (places_from u.pos a)
-    word_there a some l few =
-        let first : Locals = record u { low = lo } in
-        let rest = doing (Assign More (Binary Sub (Get Room) (Get Count)) low_block) in
-        let left : (u.room + (2 ^ 64 - u.count)) % 2 ^ 64 ≡ suc j = (let s = r.sum in let f = r.few in omega (arith, s, f)) in
-        pre extent u.next (k + 1) (doing copy_turn u) (bind (word_tree limit k first) (after_helper Number first rest)) (doing low_block (vars (suc j)))
-        (places_from u.pos a)
-        (ap (λ t. bind t (after_helper Number first rest)) (is_word k first))
-        (post extent u.next (k + 1) (bind (word_tree limit k first) (after_helper Number first rest))
-        (rest (record u { low = lo; number = memory k; next = k + 1; held = memory k })) (doing low_block (vars (suc j))) (places_from u.pos a)
-        (asked extent u.next (k + 1) (word_tree limit k first) (memory k) (held_word memory k first) first Number rest (places_from u.pos a)
-        (word_gives extent limit first u.pos a k refl (let h = r.ahead in omega (arith, h)) r.held some l (let w = r.within in omega (arith, w, few))))
-        (ap (λ n. doing low_block (vars n)) left))
-
-    byte_there : (i : ℕ) → i < suc j → (o : ℕ) → o ≡ u.pos % 8 + i → o < 8 → memory k / 2 ^ (8 * o) % 256 ≡ slice_index message (base + (u.count + i))
-    byte_there i l o e few =
-        let p : u.pos + i ≡ base + (u.count + i) = (let a = r.at in omega (arith, a)) in
-        let word_is : k ≡ (u.pos + i) / 8 = omega (arith, e, few) in
-        let place_is : o ≡ (u.pos + i) % 8 = omega (arith, e, few) in
-        (λ z. memory (word_is z) / 2 ^ (8 * (place_is z)) % 256) ∙ within.holds.bytes (u.pos + i) (let w = r.within in omega (arith, w, l, within.inside))
-        ∙ ap (slice_index message) p
+    abbrev by_words : ℕ → Continuation
+    by_words f = turns f (value [] (Binary Lt (Num 7) (Get More))) (λ again. means copy_word again) (doing last_block)
 
     -- one byte
-    one_byte : (mo : ℕ) → mo < 8 → doing low_block (vars (suc j)) ≡ doing eight_block (vars mo)
-        → ((bs : List (List ℕ)) → map length bs ≡ basis.lengths → HasBytes bs (u.count + 1) → HasOthers bs
-        → Copied (looping m (record (vars mo) { buffers = bs; pos = u.pos + 1; count = u.count + 1 }))
-        (record (vars mo) { buffers = bs; pos = u.pos + 1; count = u.count + 1 }) j)
-        → Copied (doing copy_turn u) u (suc j)
-    one_byte mo few e rec =
-        let room : u.count < slice_index (map length u.buffers) buffer =
+    one_byte : (v : Locals) (i : ℕ) → suc i ≤ suc j → Ready v (suc i) → v.low ≡ 8 * (v.pos % 8) → Copied (doing copy_byte v) v (suc i)
+    one_byte v i few r low_eq =
+        let k = v.pos / 8 in
+        let held : Locals = record v { number = memory k; next = k + 1; held = memory k } in
+        let room : v.count < slice_index (map length v.buffers) buffer =
         (let s = r.sum in let f = r.fits in let z = ap (λ ns. slice_index ns buffer) r.kept in omega (arith, s, f, z)) in
-        let v = memory k / 2 ^ (8 * (u.pos % 8)) in
-        let p = puts u.buffers buffer u.count v room in
-        let not7 : nat_lt 7 mo ≡ false = le-ltb 7 mo (omega (arith, few)) in
-        let is8 : nat_lt mo 8 ≡ true = lt-ltb mo 8 few in
-        let on : ℕ → ℕ → Tree Out = λ q n. looping m (record (vars mo) { buffers = p.now; pos = q; count = n }) in
-        let small_pos : (u.pos + 1) % 2 ^ 64 ≡ u.pos + 1 = mod-eq_of_lt
-        (let w = r.within in let z : u.pos + 1 < 2 ^ 64 = omega (arith, w, within.short, within.inside) in z) in
-        let small_count : (u.count + 1) % 2 ^ 64 ≡ u.count + 1 = mod-eq_of_lt
-        (let s = r.sum in let f = r.few in let z : u.count + 1 < 2 ^ 64 = omega (arith, s, f) in z) in
-        let bits : nat_le 64 (8 * (u.pos % 8)) ≡ false = lt-leb 64 (8 * (u.pos % 8)) (omega arith) in
-        let shifted : applied Shr (memory k) lo ≡ Some v = ap (applied Shr (memory k)) (low_is u.pos) ∙ ap (λ b. cond b None (Some v)) bits in
-        let next : Block = Assign Pos (plus (Get Pos) 1) (Assign Count (plus (Get Count) 1) Ends) in
-        let steps : doing low_block (vars (suc j)) ≡ on (u.pos + 1) (u.count + 1) =
-        e
-        ∙ ap (λ b. cond (nat_eq (bit b) 0) (doing last_block (vars mo))
-        (means (bytes_from 0 8 (Assign Pos (plus (Get Pos) 8) (Assign Count (plus (Get Count) 8) Ends))) (doing last_block) (vars mo))) not7
-        ∙ ap (λ b. cond (nat_eq (bit b) 0) (looping m (vars mo)) (doing (Byte 0 (Get Count) (Binary Shr (Get Number) (Get Low)) next) (vars mo))) is8
-        ∙ ap (λ o. given o (λ n. given (with_byte u.buffers buffer u.count n) (λ bytes. doing next (record (vars mo) { buffers = bytes })))) shifted
-        ∙ ap (λ o. given o (λ bytes. doing next (record (vars mo) { buffers = bytes }))) p.is
-        ∙ (λ i. on (small_pos i) (small_count i)) in
-        let more : 1 + j ≡ suc j = omega arith in
-        subst (λ n. Copied (doing copy_turn u) u n) more
-        (joined (doing copy_turn u) u m 1 j p.now (memory k) mo lo k
-        (post extent u.next (k + 1) (doing copy_turn u) (doing low_block (vars (suc j))) (on (u.pos + 1) (u.count + 1)) (places_from u.pos 1)
-        (word_there 1 (omega arith) (omega arith) (omega arith)) steps)
-        (rec p.now (p.kept ∙ r.kept)
-        (byte_more message buffer base old u.buffers u.count v p r.done
-        (byte_there 0 (omega arith) (u.pos % 8) (omega arith) (mod_below u.pos 8 (omega arith)) ∙
-        (let z : base + (u.count + 0) ≡ base + u.count = omega arith in ap (slice_index message) z)))
-        (old_more message buffer base old u.buffers u.count v p r.others)))
+        let n = memory k / 2 ^ (8 * (v.pos % 8)) in
+        let p = puts v.buffers buffer v.count n room in
+        let on : ℕ → ℕ → Tree Out = λ q c. looping m (record held { buffers = p.now; pos = q; count = c }) in
+        let shifted : applied Shr (memory k) v.low ≡ Some n = ap (applied Shr (memory k)) low_eq ∙ shr_ok (memory k) (8 * (v.pos % 8)) (omega arith) in
+        let steps : doing (Byte 0 (Get Count) (Binary Shr (Get Number) (Get Low)) (copied_by 1 Ends)) held ≡ on (v.pos + 1) (v.count + 1) =
+        ap (λ o. given o (λ n. given (with_byte v.buffers buffer v.count n) (λ bytes. doing (copied_by 1 Ends) (record held { buffers = bytes })))) shifted
+        ∙ ap (λ o. given o (λ bytes. doing (copied_by 1 Ends) (record held { buffers = bytes }))) p.is
+        ∙ (λ z. on (small_pos v (suc i) 1 r (omega arith) z) (small_count v (suc i) 1 r (omega arith) z)) in
+        let d : HasBytes p.now (v.count + 1) = byte_more message buffer base old v.buffers v.count n p r.done
+        (byte_there v (suc i) r 0 (omega arith) (v.pos % 8) (omega arith) (mod_below v.pos 8 (omega arith)) ∙
+        (let z : base + (v.count + 0) ≡ base + v.count = omega arith in ap (slice_index message) z)) in
+        let less : suc i - 1 ≡ i = omega arith in
+        let ready = subst (Ready (record held { buffers = p.now; pos = v.pos + 1; count = v.count + 1 })) less
+        (ready_on v (suc i) r 1 (memory k) v.more p.now (p.kept ∙ r.kept) d (old_more message buffer base old v.buffers v.count n p r.others)
+        (omega arith) (omega arith) (omega arith)) in
+        let all : 1 + i ≡ suc i = omega arith in
+        subst (λ n. Copied (doing copy_byte v) v n) all
+        (joined (doing copy_byte v) (on (v.pos + 1) (v.count + 1)) v 1 i p.now (memory k) v.more k
+        (post extent v.next (k + 1) (doing copy_byte v) (doing (Byte 0 (Get Count) (Binary Shr (Get Number) (Get Low)) (copied_by 1 Ends)) held)
+        (on (v.pos + 1) (v.count + 1)) (places_from v.pos 1)
+        (word_there (looping m) (Byte 0 (Get Count) (Binary Shr (Get Number) (Get Low)) (copied_by 1 Ends)) v (suc i) r 1 (omega arith) (omega arith) (omega arith)) steps)
+        (rec (record held { buffers = p.now; pos = v.pos + 1; count = v.count + 1 }) i (omega (arith, few)) ready))
 
-    -- eight bytes, where a word begins
-    eight_bytes : u.pos % 8 ≡ 0 → 8 ≤ suc j → doing low_block (vars (suc j)) ≡ doing eight_block (vars (suc j))
-        → ((bs : List (List ℕ)) → map length bs ≡ basis.lengths → HasBytes bs (u.count + 8) → HasOthers bs
-        → Copied (looping m (record (vars (suc j)) { buffers = bs; pos = u.pos + 8; count = u.count + 8 }))
-        (record (vars (suc j)) { buffers = bs; pos = u.pos + 8; count = u.count + 8 }) (suc j - 8))
-        → Copied (doing copy_turn u) u (suc j)
-    eight_bytes whole many e rec =
-        let next : Block = Assign Pos (plus (Get Pos) 8) (Assign Count (plus (Get Count) 8) Ends) in
-        let is7 : nat_lt 7 (suc j) ≡ true = lt-ltb 7 (suc j) (omega (arith, many)) in
-        let not8 : nat_lt (suc j) 8 ≡ false = le-ltb (suc j) 8 many in
-        let w = bytes_written (doing last_block) 8 0 (vars (suc j)) next r.kept
-        (let s = r.sum in let f = r.fits in omega (arith, s, f, many)) (let s = r.sum in let f = r.few in omega (arith, s, f)) (omega arith)
-        (let z : u.count + 0 ≡ u.count = omega arith in subst (HasBytes u.buffers) (sym z) r.done) r.others
-        (λ i l. byte_there i (omega (arith, l, many)) i (omega (arith, whole)) l) in
-        let on : ℕ → ℕ → Tree Out = λ q n. looping m (record (vars (suc j)) { buffers = w.buffers; pos = q; count = n }) in
-        let after_it : ℕ → ℕ → Tree Out = λ q n. doing last_block (record (vars (suc j)) { buffers = w.buffers; pos = q; count = n }) in
-        let small_pos : (u.pos + 8) % 2 ^ 64 ≡ u.pos + 8 = mod-eq_of_lt
-        (let v = r.within in let z : u.pos + 8 < 2 ^ 64 = omega (arith, v, within.short, within.inside) in z) in
-        let small_count : (u.count + 8) % 2 ^ 64 ≡ u.count + 8 = mod-eq_of_lt
-        (let s = r.sum in let f = r.few in let z : u.count + 8 < 2 ^ 64 = omega (arith, s, f) in z) in
-        let steps : doing low_block (vars (suc j)) ≡ on (u.pos + 8) (u.count + 8) =
-        e
-        ∙ ap (λ b. cond (nat_eq (bit b) 0) (doing last_block (vars (suc j))) (means (bytes_from 0 8 next) (doing last_block) (vars (suc j)))) is7
-        ∙ w.is
-        ∙ (λ i. after_it (small_pos i) (small_count i))
-        ∙ ap (λ b. cond (nat_eq (bit b) 0) (on (u.pos + 8) (u.count + 8))
-        (doing (Byte 0 (Get Count) (Binary Shr (Get Number) (Get Low)) (Assign Pos (plus (Get Pos) 1) (Assign Count (plus (Get Count) 1) Ends)))
-        (record (vars (suc j)) { buffers = w.buffers; pos = u.pos + 8; count = u.count + 8 }))) not8 in
-        let more : 8 + (suc j - 8) ≡ suc j = omega (arith, many) in
-        subst (λ n. Copied (doing copy_turn u) u n) more
-        (joined (doing copy_turn u) u m 8 (suc j - 8) w.buffers (memory k) (suc j) lo k
-        (post extent u.next (k + 1) (doing copy_turn u) (doing low_block (vars (suc j))) (on (u.pos + 8) (u.count + 8)) (places_from u.pos 8)
-        (word_there 8 (omega arith) (omega (arith, whole)) many) steps)
-        (rec w.buffers w.kept (let z : u.count + 0 + 8 ≡ u.count + 8 = omega arith in subst (HasBytes w.buffers) z w.done) w.others))
+    -- a byte, if there is one left
+    last_byte : (v : Locals) (i : ℕ) → i ≤ suc j → Ready v i → v.low ≡ 8 * (v.pos % 8) → Copied (doing last_block v) v i
+    last_byte v zero few r low_eq =
+        let no : nat_lt v.count v.room ≡ false = le-ltb v.count v.room (let s = r.sum in omega (arith, s)) in
+        subst (λ t. Copied t v 0) (sym (ap (λ b. cond (nat_eq (bit b) 0) (looping m v) (doing copy_byte v)) no)) (rec v 0 (omega arith) r)
+    last_byte v (suc i) few r low_eq =
+        let yes : nat_lt v.count v.room ≡ true = lt-ltb v.count v.room (let s = r.sum in omega (arith, s)) in
+        subst (λ t. Copied t v (suc i)) (sym (ap (λ b. cond (nat_eq (bit b) 0) (looping m v) (doing copy_byte v)) yes)) (one_byte v i few r low_eq)
 
-    ready_on : (a num mo l : ℕ) (bs : List (List ℕ)) → map length bs ≡ basis.lengths → HasBytes bs (u.count + a) → HasOthers bs → 0 < a → a ≤ suc j
-        → u.pos % 8 + a ≤ 8
-        → Ready (record u { low = l; number = num; more = mo; next = k + 1; held = memory k; buffers = bs; pos = u.pos + a; count = u.count + a })
-        (suc j - a)
-    ready_on a num mo l bs kept d o some few in_it = record {
-      sum = (let s = r.sum in omega (arith, s, few));
-      fits = r.fits;
-      few = r.few;
-      within = (let w = r.within in omega (arith, w, few));
-      kept = kept;
-      ahead = omega (arith, some);
-      held = λ w e. let q : k ≡ w = omega (arith, e) in ap memory q;
-      at = (let a = r.at in omega (arith, a));
-      done = d;
-      others = o;
-    }
+    -- no whole word is wanted
+    no_word : (f : ℕ) → 0 < f → (v : Locals) → v.more < 8 → by_words f v ≡ doing last_block v
+    no_word zero some v few = absurd (omega (arith, some))
+    no_word (suc f) some v few =
+        let no : nat_lt 7 v.more ≡ false = le-ltb 7 v.more (omega (arith, few)) in
+        ap (λ b. cond (nat_eq (bit b) 0) (doing last_block v) (means copy_word (by_words f) v)) no
 
-    one_turn : ((v : Locals) (i : ℕ) → i ≤ j → Ready v i → Copied (looping m v) v i) → Copied (doing copy_turn u) u (suc j)
-    one_turn rec = by (nat_eq lo 0) refl
+    -- a word, where one begins
+    one_word : (f : ℕ) (v : Locals) (i : ℕ) → 8 ≤ i → Ready v i → v.more ≡ i → v.pos % 8 ≡ 0
+        → ((w : Locals) → w.more ≡ i - 8 → w.low ≡ v.low → w.pos ≡ v.pos + 8 → Ready w (i - 8) → Copied (by_words f w) w (i - 8))
+        → Copied (means copy_word (by_words f) v) v i
+    one_word f v i many r wanted whole after =
+        let k = v.pos / 8 in
+        let held : Locals = record v { number = memory k; next = k + 1; held = memory k } in
+        let next : Block = copied_by 8 (Assign More (Binary Sub (Get More) (Num 8)) Ends) in
+        let go = by_words f in
+        let w = bytes_written go 8 0 held next r.kept
+        (let s = r.sum in let f = r.fits in omega (arith, s, f, many)) (let s = r.sum in let f = r.few in omega (arith, s, f, many)) (omega arith)
+        (let z : v.count + 0 ≡ v.count = omega arith in subst (HasBytes v.buffers) (sym z) r.done) r.others
+        (λ q l. byte_there v i r q (omega (arith, l, many)) q (omega (arith, whole)) l) in
+        let on : ℕ → ℕ → ℕ → Tree Out = λ q c n. go (record held { buffers = w.buffers; pos = q; count = c; more = n }) in
+        let less : (v.more + (2 ^ 64 - 8)) % 2 ^ 64 ≡ i - 8 = (let s = r.sum in let f = r.few in omega (arith, s, f, wanted, many)) in
+        let steps : means (bytes_from 0 8 next) go held ≡ on (v.pos + 8) (v.count + 8) (i - 8) =
+        w.is ∙ (λ z. on (small_pos v i 8 r many z) (small_count v i 8 r many z) (less z)) in
+        let d : HasBytes w.buffers (v.count + 8) = (let z : v.count + 0 + 8 ≡ v.count + 8 = omega arith in subst (HasBytes w.buffers) z w.done) in
+        let all : 8 + (i - 8) ≡ i = omega (arith, many) in
+        subst (λ n. Copied (means copy_word go v) v n) all
+        (joined (means copy_word go v) (on (v.pos + 8) (v.count + 8) (i - 8)) v 8 (i - 8) w.buffers (memory k) (i - 8) k
+        (post extent v.next (k + 1) (means copy_word go v) (means (bytes_from 0 8 next) go held) (on (v.pos + 8) (v.count + 8) (i - 8)) (places_from v.pos 8)
+        (word_there go (bytes_from 0 8 next) v i r 8 (omega arith) (omega (arith, whole)) many) steps)
+        (after (record held { buffers = w.buffers; pos = v.pos + 8; count = v.count + 8; more = i - 8 }) refl refl refl
+        (ready_on v i r 8 (memory k) (i - 8) w.buffers w.kept d w.others (omega arith) many (omega (arith, whole)))))
+
+    -- words, and then a byte
+    all_words : (f : ℕ) (v : Locals) (i : ℕ) → i < 8 * f → i ≤ suc j → Ready v i → v.more ≡ i → v.low ≡ 8 * (v.pos % 8) → v.pos % 8 ≡ 0 → Copied (by_words f v) v i
+    all_words zero v i enough few r wanted low_eq whole = absurd (omega (arith, enough))
+    all_words (suc f) v i enough few r wanted low_eq whole = elim (cases_lt 7 i) [
+      | inl many ↦
+          let yes : nat_lt 7 v.more ≡ true = lt-ltb 7 v.more (omega (arith, many, wanted)) in
+          subst (λ t. Copied t v i) (sym (ap (λ b. cond (nat_eq (bit b) 0) (doing last_block v) (means copy_word (by_words f) v)) yes))
+          (one_word f v i (omega (arith, many)) r wanted whole (λ w more_eq low_is pos_is ready.
+          let aligned : w.pos % 8 ≡ 0 = omega (arith, pos_is, whole) in
+          all_words f w (i - 8) (omega (arith, enough, many)) (omega (arith, few)) ready more_eq (omega (arith, low_is, low_eq, whole, aligned)) aligned))
+      | inr none ↦ subst (λ t. Copied t v i) (sym (no_word (suc f) (omega arith) v (omega (arith, none, wanted)))) (last_byte v i few r low_eq)
+    ]
+
+    one_turn : (u : Locals) → Ready u (suc j) → Copied (doing copy_turn u) u (suc j)
+    one_turn u r =
+        subst (λ t. Copied t u (suc j)) (sym left) (by (nat_eq lo 0) refl)
       where
-        one_less : suc j - 1 ≡ j
-        one_less = omega arith
+        lo : ℕ
+        lo = (u.pos % 8 * 8) % 2 ^ 64
 
-        single : (mo : ℕ) (bs : List (List ℕ)) → map length bs ≡ basis.lengths → HasBytes bs (u.count + 1) → HasOthers bs
-            → Copied (looping m (record (vars mo) { buffers = bs; pos = u.pos + 1; count = u.count + 1 }))
-            (record (vars mo) { buffers = bs; pos = u.pos + 1; count = u.count + 1 }) j
-        single mo bs kept d o =
-            rec (record (vars mo) { buffers = bs; pos = u.pos + 1; count = u.count + 1 }) j (omega arith)
-            (subst (Ready (record (vars mo) { buffers = bs; pos = u.pos + 1; count = u.count + 1 })) one_less
-            (ready_on 1 (memory k) mo lo bs kept d o (omega arith) (omega arith) (omega arith)))
+        vars : (mo : ℕ) → Locals
+        vars mo = record u { low = lo; more = mo }
 
-        eight : 8 ≤ suc j → u.pos % 8 ≡ 0 → (bs : List (List ℕ)) → map length bs ≡ basis.lengths → HasBytes bs (u.count + 8) → HasOthers bs
-            → Copied (looping m (record (vars (suc j)) { buffers = bs; pos = u.pos + 8; count = u.count + 8 }))
-            (record (vars (suc j)) { buffers = bs; pos = u.pos + 8; count = u.count + 8 }) (suc j - 8)
-        eight many z bs kept d o =
-            rec (record (vars (suc j)) { buffers = bs; pos = u.pos + 8; count = u.count + 8 }) (suc j - 8) (omega (arith, many))
-            (ready_on 8 (memory k) (suc j) lo bs kept d o (omega arith) many (omega (arith, z)))
+        left : doing copy_turn u ≡ doing low_block (vars (suc j))
+        left =
+            let e : (u.room + (2 ^ 64 - u.count)) % 2 ^ 64 ≡ suc j = (let s = r.sum in let f = r.few in omega (arith, s, f)) in
+            ap (λ n. doing low_block (vars n)) e
 
-        by : (b : Bool) → nat_eq lo 0 ≡ b → Copied (doing copy_turn u) u (suc j)
+        ready : (mo : ℕ) → Ready (vars mo) (suc j)
+        ready mo = record {
+          sum = r.sum;
+          fits = r.fits;
+          few = r.few;
+          enough = r.enough;
+          within = r.within;
+          kept = r.kept;
+          ahead = r.ahead;
+          held = r.held;
+          at = r.at;
+          done = r.done;
+          others = r.others;
+        }
+
+        by : (b : Bool) → nat_eq lo 0 ≡ b → Copied (doing low_block (vars (suc j))) u (suc j)
         by false e =
-            one_byte 0 (omega arith) (ap (λ b. cond b (doing eight_block (vars (suc j))) (doing eight_block (vars 0))) e)
-            (λ bs kept d o. single 0 bs kept d o)
+            let some : 0 < limit = (let h = r.enough in omega (arith, h)) in
+            subst (λ t. Copied t u (suc j)) (sym (ap (λ b. cond b (by_words limit (vars (suc j))) (by_words limit (vars 0))) e ∙ no_word limit some (vars 0) (omega arith)))
+            (moved (doing last_block (vars 0)) u lo 0 (suc j) (last_byte (vars 0) (suc j) (omega arith) (ready 0) (low_is u.pos)))
         by true e =
             let none : lo ≡ 0 = eq_is lo 0 e in
-            let z : u.pos % 8 ≡ 0 = (let l = low_is u.pos in omega (arith, none, l)) in
-            let same = ap (λ b. cond b (doing eight_block (vars (suc j))) (doing eight_block (vars 0))) e in
-            elim (cases_lt 7 (suc j)) [
-              | inl many ↦ eight_bytes z (omega (arith, many)) same (λ bs kept d o. eight (omega (arith, many)) z bs kept d o)
-              | inr few ↦ one_byte (suc j) (omega (arith, few)) same (λ bs kept d o. single (suc j) bs kept d o)
-            ]
+            let whole : u.pos % 8 ≡ 0 = (let l = low_is u.pos in omega (arith, none, l)) in
+            let enough : suc j < 8 * limit = (let h = r.enough in let s = r.sum in omega (arith, h, s)) in
+            subst (λ t. Copied t u (suc j)) (sym (ap (λ b. cond b (by_words limit (vars (suc j))) (by_words limit (vars 0))) e))
+            (moved (by_words limit (vars (suc j))) u lo (suc j) (suc j)
+            (all_words limit (vars (suc j)) (suc j) enough (omega arith) (ready (suc j)) refl (low_is u.pos) whole))
 
   -- all of them
   pub all_copied : (m : ℕ) (u : Locals) (j : ℕ) → j < m → Ready u j → Copied (looping m u) u j
@@ -339,5 +361,5 @@ module _ (copy : Copy) where
   all_copied (suc m) u zero l r = all_done m u r
   all_copied (suc m) u (suc j) l r =
       let yes : nat_lt u.count u.room ≡ true = lt-ltb u.count u.room (let s = r.sum in omega (arith, s)) in
-      let c = one_turn m u j r (λ v i h q. all_copied m v i (omega (arith, l, h)) q) in
+      let c = one_turn m j (λ v i h q. all_copied m v i (omega (arith, l, h)) q) u r in
       subst (λ t. Copied t u (suc j)) (sym (ap (λ b. cond (nat_eq (bit b) 0) (Done (Gave u.count u)) (means copy_turn (looping m) u)) yes)) c

@@ -1,5 +1,5 @@
 -- Helpers: the number at a position, what is loaded for it, and what it is. Cited by other crates.
-use Rattle.std.proofs.Common.{◌≡◌, ℕ, zero, suc, ◌+◌, ◌-◌, ◌*◌, ◌/◌, ◌%◌, ◌^◌, ◌<◌, ◌≤◌, inl, inr, Bool, true, false, cond, List, [], ◌∷◌, ◌++◌, length, append-nil, refl, sym, ap, ◌∙◌, subst, arith}
+use Rattle.std.proofs.Common.{◌≡◌, ℕ, zero, suc, ◌+◌, ◌-◌, ◌*◌, ◌/◌, ◌%◌, ◌^◌, ◌<◌, ◌≤◌, inl, inr, Bool, true, false, cond, List, [], ◌∷◌, ◌++◌, length, refl, sym, ap, ◌∙◌, subst, arith}
 use Rattle.std.specs.Prelude.{nat_lt, nat_le, nat_eq, Some, None}
 use Rattle.std.specs.Int.{w64, swap_bytes}
 use Rattle.std.proofs.lemmas.Nat.{and_mask, mod_below, pow_pos}
@@ -15,11 +15,11 @@ use Rattle.td_prog.specs.Values.{Locals, and_then, applied}
 use Rattle.td_prog.specs.Means.{Out, Gave, Continuation, Helpers, nowhere, given, shared, after_helper, block_means}
 use Rattle.td_prog.specs.Run.{declared, no_routine, helpers_below}
 use Rattle.td_prog_code.specs.Prelude.{word, plus, td_word, little_body, number_helper, prelude}
-use Rattle.td_prog_trees.specs.Agree.{Basis, Extent, IsWithin, fresh}
-use Rattle.td_prog_trees.specs.Laws.{NumbersAreTaken}
+use Rattle.td_prog_trees.specs.Memory.{IsMemory}
+use Rattle.td_prog_trees.specs.Agree.{Numbering, Basis, Extent}
 use Rattle.td_prog_trees.proofs.Composing.{by_cases, Leads}
 use Rattle.td_prog_trees.proofs.Numbers.{quotient_small, one_word, two_words, one_digits, two_digits, low_digits, back_is, sum_small}
-use Rattle.td_prog_trees.proofs.Leading.{places_split, then, load_leads, held_leads, pre, post, asked}
+use Rattle.td_prog_trees.proofs.Leading.{AreInOne, places_split, then, load_leads, held_leads, pre, post, asked}
 
 pub some_width : (w : ℕ) → IsWidth w → 0 < w
 some_width w (inl e) = omega (arith, e)
@@ -34,7 +34,7 @@ eight_small a b c d e f g h la lb lc ld le lf lg lh = omega (arith, la, lb, lc, 
 byte_small : (n : ℕ) → n % 256 < 256
 byte_small n = omega arith
 
-swap_small : (n : ℕ) → swap_bytes w64 n < 2 ^ 64
+pub swap_small : (n : ℕ) → swap_bytes w64 n < 2 ^ 64
 swap_small n =
     eight_small (n % 256) (n / 256 % 256) (n / 65536 % 256) (n / 16777216 % 256) (n / 4294967296 % 256) (n / 1099511627776 % 256)
     (n / 281474976710656 % 256) (n / 72057594037927936 % 256)
@@ -52,9 +52,34 @@ word_tree most w s = (block_means most (helpers_below most prelude 0) no_routine
 abbrev pub held_word : (ℕ → ℕ) → ℕ → Locals → Locals
 held_word memory w s = record (declared [] s) { word = w; next = w + 1; held = memory w }
 
-module _ (extent : Extent) where
-  open extent use {memory, basis, to}
+-- a message at the front of a buffer: eight bytes a word
+abbrev pub eights : Numbering
+eights = record { word = λ p. p / 8; rises = λ p q h. omega (arith, h) }
+
+-- memory that stays, and what a run on it stands on, up to an end
+pub record Plainly : Type 0 where
+  pub memory : ℕ → ℕ
+  pub basis : Basis
+  pub to : ℕ
+
+abbrev pub extent_of : Plainly → Extent
+extent_of plainly = record { memory = plainly.memory; numbering = eights; basis = plainly.basis; from = 0; to = plainly.to }
+
+-- memory holds a message of less than 2^32 bytes
+pub record IsPlain (plainly : Plainly) : Type 0 where
+  pub holds : IsMemory plainly.memory plainly.basis.message
+  pub short : length plainly.basis.message < 2 ^ 32
+  pub inside : plainly.to ≤ length plainly.basis.message
+
+in_one : (p w : ℕ) → p % 8 + w ≤ 8 → AreInOne (λ q. q / 8) p w
+in_one p w l q a b = omega (arith, l, a, b)
+
+module _ (plainly : Plainly) where
+  open plainly use {memory, basis, to}
   open basis use {message}
+
+  abbrev extent : Extent
+  extent = extent_of plainly
 
   abbrev Leading : (next next' : ℕ) → Tree Out → Tree Out → List ℕ → Type 0
   Leading next next' y x touched = Leads extent next next' y x touched
@@ -69,12 +94,12 @@ module _ (extent : Extent) where
         (λ e.
         let le : s.next ≤ p / 8 = grind (arith, e, q) in
         subst (λ j. Leading s.next (j + 1) (Loads j (λ v. ready (k + 1) v)) (ready (k + 1) (memory j)) (places_from p a)) q
-        (load_leads extent s.next p a (λ v. ready (k + 1) v) (memory (p / 8)) refl le some l inside))
+        (load_leads extent s.next p a (λ v. ready (k + 1) v) (memory (p / 8)) refl le some (in_one p a l) inside))
         (λ e.
         let at : s.next ≡ k + 1 = grind (arith, e, n) in
         let at' : s.next ≡ p / 8 + 1 = omega (arith, at, q) in
         subst (λ j. Leading s.next (j + 1) (ready s.next s.held) (ready (k + 1) (memory k)) (places_from p a)) q
-        (held_leads extent s.next p a (ready s.next s.held) (ready (k + 1) (memory k)) (λ i. ready (at i) (h k at i)) at' l inside))
+        (held_leads extent s.next p a (ready s.next s.held) (ready (k + 1) (memory k)) (λ i. ready (at i) (h k at i)) at' (in_one p a l) inside))
       where
         ready : ℕ → ℕ → Tree Out
         ready n v = Done (Gave v (record (declared [] s) { word = k; next = n; held = v }))
@@ -86,7 +111,7 @@ module _ (extent : Extent) where
       pub leads : Leading s.next (k + 1) tree (Done (Gave value final)) touched
       pub back : shared s final ≡ record s { next = k + 1; held = memory k }
 
-    module _ (within : IsWithin extent) where
+    module _ (within : IsPlain plainly) where
       open within use {holds, short, inside}
 
       pub record IsNumber (p w v : ℕ) : Type 0 where
@@ -344,16 +369,3 @@ module _ (extent : Extent) where
         number_gives order w (inr (inl e)) = subst (Ordered order) (sym e) (gives_2 order)
         number_gives order w (inr (inr (inl e))) = subst (Ordered order) (sym e) (gives_4 order)
         number_gives order w (inr (inr (inr e))) = subst (Ordered order) (sym e) (gives_8 order)
-
-pub numbers_are_taken : NumbersAreTaken
-numbers_are_taken memory message most order width pos s is short wide inside next held =
-    let basis : Basis = record { message = message; lengths = []; first = 0 } in
-    let extent : Extent = record { memory = memory; basis = basis; from = 0; to = length message } in
-    let within : IsWithin extent = record { holds = is; short = short; inside = omega arith } in
-    let g = number_gives extent most within s pos next held order width wide inside in
-    record {
-      final = g.gives.final;
-      gives = g.gives.leads.same ∙ ap (λ v. Gave v g.gives.final) g.right;
-      words = g.gives.leads.words ∙ append-nil (fresh s.next (places_from pos width));
-      then = g.gives.back;
-    }

@@ -1,5 +1,5 @@
 -- Trees that load the words of some places, and then go on. Cited by other crates.
-use Rattle.std.proofs.Common.{◌≡◌, ℕ, zero, suc, ◌+◌, ◌*◌, ◌/◌, ◌%◌, ◌<◌, ◌≤◌, true, false, cond, List, [], ◌∷◌, ◌++◌, append_assoc, append-nil, refl, sym, ap, ◌∙◌, subst, arith}
+use Rattle.std.proofs.Common.{◌≡◌, ℕ, zero, suc, ◌+◌, ◌-◌, ◌<◌, ◌≤◌, true, false, cond, List, [], ◌∷◌, ◌++◌, append_assoc, append-nil, refl, sym, ap, ◌∙◌, subst, arith}
 use Rattle.std.specs.Prelude.{nat_lt}
 use Rattle.std.proofs.lemmas.Bool.{lt-ltb, le-ltb}
 use Rattle.td_num.specs.Numbers.{places_from}
@@ -7,41 +7,80 @@ use Rattle.td_prog.specs.Tree.{Tree, Done, Loads, bind, answer, loaded}
 use Rattle.td_prog.specs.Syntax.{Var}
 use Rattle.td_prog.specs.Values.{Locals, written}
 use Rattle.td_prog.specs.Means.{Out, Gave, Continuation, shared, after_helper}
-use Rattle.td_prog_trees.specs.Agree.{Extent, fresh, behind, IsForward}
-use Rattle.td_prog_trees.proofs.Composing.{Leads, fresh_append, behind_append, forward_append, answer_bind, loaded_bind}
+use Rattle.td_prog_trees.specs.Agree.{Numbering, Extent, fresh, behind, reached, IsForward}
+use Rattle.td_prog_trees.specs.Readers.{IsTaken, IsCopied}
+use Rattle.td_prog_trees.proofs.Composing.{Leads, fresh_append, behind_place, behind_append, forward_append, answer_bind, loaded_bind}
 
--- The words of a number's places
-fresh_none : (next p w : ℕ) → p + w ≤ 8 * next → fresh next (places_from p w) ≡ []
-fresh_none next p zero h = refl
-fresh_none next p (suc w) h =
-    let l : nat_lt (p / 8) next ≡ true = lt-ltb (p / 8) next (omega (arith, h)) in
-    ap (λ b. cond b (fresh next (places_from (p + 1) w)) (p / 8 ∷ fresh (p / 8 + 1) (places_from (p + 1) w))) l ∙ fresh_none next (p + 1) w
-    (omega (arith, h))
+-- the words of a number's places, where all of them are of words that were loaded
+fresh_none : (word : ℕ → ℕ) (next p w : ℕ) → ((q : ℕ) → p ≤ q → q < p + w → word q < next) → fresh word next (places_from p w) ≡ []
+fresh_none word next p zero h = refl
+fresh_none word next p (suc w) h =
+    let l : nat_lt (word p) next ≡ true = lt-ltb (word p) next (h p (omega arith) (omega arith)) in
+    ap (λ b. cond b (fresh word next (places_from (p + 1) w)) (word p ∷ fresh word (word p + 1) (places_from (p + 1) w))) l
+    ∙ fresh_none word next (p + 1) w (λ q a b. h q (omega (arith, a)) (omega (arith, b)))
 
-behind_none : (next p w : ℕ) → p + w ≤ 8 * next → behind next (places_from p w) ≡ next
-behind_none next p zero h = refl
-behind_none next p (suc w) h =
-    let l : nat_lt (p / 8) next ≡ true = lt-ltb (p / 8) next (omega (arith, h)) in
-    ap (λ b. cond b (behind next (places_from (p + 1) w)) (behind (p / 8 + 1) (places_from (p + 1) w))) l ∙ behind_none next (p + 1) w (omega (arith, h))
+behind_none : (word : ℕ → ℕ) (next p w : ℕ) → ((q : ℕ) → p ≤ q → q < p + w → word q < next) → behind word next (places_from p w) ≡ next
+behind_none word next p zero h = refl
+behind_none word next p (suc w) h =
+    let l : nat_lt (word p) next ≡ true = lt-ltb (word p) next (h p (omega arith) (omega arith)) in
+    ap (λ b. cond b (behind word next (places_from (p + 1) w)) (behind word (word p + 1) (places_from (p + 1) w))) l
+    ∙ behind_none word next (p + 1) w (λ q a b. h q (omega (arith, a)) (omega (arith, b)))
+
+-- all of these places are of the first one's word, or of words before it
+abbrev pub AreInOne : (ℕ → ℕ) → (p w : ℕ) → Type 0
+AreInOne word p w = (q : ℕ) → p ≤ q → q < p + w → word q < word p + 1
 
 -- of places that begin in a word that isn't held
-fresh_new : (next p w : ℕ) → next ≤ p / 8 → 0 < w → p % 8 + w ≤ 8 → fresh next (places_from p w) ≡ p / 8 ∷ []
-fresh_new next p zero n s l = absurd (omega (arith, s))
-fresh_new next p (suc w) n s l =
-    let b : nat_lt (p / 8) next ≡ false = le-ltb (p / 8) next n in
-    ap (λ v. cond v (fresh next (places_from (p + 1) w)) (p / 8 ∷ fresh (p / 8 + 1) (places_from (p + 1) w))) b
-    ∙ ap (λ ws. p / 8 ∷ ws) (fresh_none (p / 8 + 1) (p + 1) w (omega (arith, l)))
+fresh_new : (word : ℕ → ℕ) (next p w : ℕ) → next ≤ word p → 0 < w → AreInOne word p w → fresh word next (places_from p w) ≡ word p ∷ []
+fresh_new word next p zero n s l = absurd (omega (arith, s))
+fresh_new word next p (suc w) n s l =
+    let b : nat_lt (word p) next ≡ false = le-ltb (word p) next n in
+    ap (λ v. cond v (fresh word next (places_from (p + 1) w)) (word p ∷ fresh word (word p + 1) (places_from (p + 1) w))) b
+    ∙ ap (λ ws. word p ∷ ws) (fresh_none word (word p + 1) (p + 1) w (λ q a c. l q (omega (arith, a)) (omega (arith, c))))
 
-behind_new : (next p w : ℕ) → next ≤ p / 8 → 0 < w → p % 8 + w ≤ 8 → behind next (places_from p w) ≡ p / 8 + 1
-behind_new next p zero n s l = absurd (omega (arith, s))
-behind_new next p (suc w) n s l =
-    let b : nat_lt (p / 8) next ≡ false = le-ltb (p / 8) next n in
-    ap (λ v. cond v (behind next (places_from (p + 1) w)) (behind (p / 8 + 1) (places_from (p + 1) w))) b
-    ∙ behind_none (p / 8 + 1) (p + 1) w (omega (arith, l))
+behind_new : (word : ℕ → ℕ) (next p w : ℕ) → next ≤ word p → 0 < w → AreInOne word p w → behind word next (places_from p w) ≡ word p + 1
+behind_new word next p zero n s l = absurd (omega (arith, s))
+behind_new word next p (suc w) n s l =
+    let b : nat_lt (word p) next ≡ false = le-ltb (word p) next n in
+    ap (λ v. cond v (behind word next (places_from (p + 1) w)) (behind word (word p + 1) (places_from (p + 1) w))) b
+    ∙ behind_none word (word p + 1) (p + 1) w (λ q a c. l q (omega (arith, a)) (omega (arith, c)))
 
-pub forward_places : (to next p w : ℕ) → next ≤ p / 8 + 1 → p + w ≤ to → IsForward to next (places_from p w)
-forward_places to next p zero h l = tt
-forward_places to next p (suc w) h l = (h, omega (arith, l), forward_places to (p / 8 + 1) (p + 1) w (omega arith) (omega (arith, l)))
+pub forward_places : (numbering : Numbering) (to next p w : ℕ) → next ≤ numbering.word p + 1 → p + w ≤ to
+    → IsForward numbering.word to next (places_from p w)
+forward_places numbering to next p zero h l = tt
+forward_places numbering to next p (suc w) h l = (
+  h,
+  omega (arith, l),
+  forward_places numbering to (numbering.word p + 1) (p + 1) w (let r = numbering.rises p (p + 1) (omega arith) in omega (arith, r)) (omega (arith, l)),
+)
+
+pub behind_places : (numbering : Numbering) (next p w : ℕ) → next ≤ numbering.word p + 1
+    → behind numbering.word next (places_from p (suc w)) ≡ numbering.word (p + w) + 1
+behind_places numbering next p zero h =
+    let e : p ≡ p + 0 = omega arith in
+    behind_place numbering.word next p h [] ∙ ap (λ q. numbering.word q + 1) e
+behind_places numbering next p (suc w) h =
+    let e : p + 1 + w ≡ p + suc w = omega arith in
+    let r = numbering.rises p (p + 1) (omega arith) in
+    behind_place numbering.word next p h (places_from (p + 1) (suc w))
+    ∙ behind_places numbering (numbering.word p + 1) (p + 1) w (omega (arith, r)) ∙ ap (λ q. numbering.word q + 1) e
+
+-- the word behind those before a place
+pub reached_rises : (numbering : Numbering) (p q : ℕ) → p ≤ q → reached numbering.word p ≤ reached numbering.word q
+reached_rises numbering zero q h = omega arith
+reached_rises numbering (suc p) zero h = absurd (omega (arith, h))
+reached_rises numbering (suc p) (suc q) h = let r = numbering.rises p q (omega (arith, h)) in omega (arith, r)
+
+pub reached_near : (numbering : Numbering) (p : ℕ) → reached numbering.word p ≤ numbering.word p + 1
+reached_near numbering zero = omega arith
+reached_near numbering (suc p) = let r = numbering.rises p (suc p) (omega arith) in omega (arith, r)
+
+pub reached_is : (numbering : Numbering) (p w : ℕ) → 0 < w → reached numbering.word (p + w) ≡ numbering.word (p + w - 1) + 1
+reached_is numbering p zero h = absurd (omega (arith, h))
+reached_is numbering p (suc w) h =
+    let e : p + suc w ≡ suc (p + w) = omega arith in
+    let f : p + w ≡ p + suc w - 1 = omega arith in
+    ap (reached numbering.word) e ∙ ap (λ q. numbering.word q + 1) f
 
 pub places_split : (p a b : ℕ) → places_from p (a + b) ≡ places_from p a ++ places_from (p + a) b
 places_split p zero b =
@@ -54,7 +93,8 @@ places_split p (suc a) b =
     ap (places_from p) z ∙ ap (λ ps. p ∷ ps) (places_split (p + 1) a b ∙ ap (λ q. places_from (p + 1) a ++ places_from q b) e)
 
 module _ (extent : Extent) where
-  open extent use {memory, basis, to}
+  open extent use {memory, numbering, basis, to}
+  open numbering use {word}
   open basis use {message}
 
   abbrev Leading : (next next' : ℕ) → Tree Out → Tree Out → List ℕ → Type 0
@@ -64,10 +104,10 @@ module _ (extent : Extent) where
   then n1 n2 n3 x y z t u h k = record {
     same = h.same ∙ k.same;
     words =
-        h.words ∙ ap (λ ws. fresh n1 t ++ ws) (k.words ∙ ap (λ n. fresh n u ++ loaded memory z) (sym h.behind_them))
-        ∙ sym (append_assoc (fresh n1 t) (fresh (behind n1 t) u) (loaded memory z)) ∙ ap (λ ws. ws ++ loaded memory z) (sym (fresh_append n1 t u));
-    behind_them = behind_append n1 t u ∙ ap (λ n. behind n u) h.behind_them ∙ k.behind_them;
-    forward = forward_append to n1 t u h.forward (subst (λ n. IsForward to n u) (sym h.behind_them) k.forward);
+        h.words ∙ ap (λ ws. fresh word n1 t ++ ws) (k.words ∙ ap (λ n. fresh word n u ++ loaded memory z) (sym h.behind_them))
+        ∙ sym (append_assoc (fresh word n1 t) (fresh word (behind word n1 t) u) (loaded memory z)) ∙ ap (λ ws. ws ++ loaded memory z) (sym (fresh_append word n1 t u));
+    behind_them = behind_append word n1 t u ∙ ap (λ n. behind word n u) h.behind_them ∙ k.behind_them;
+    forward = forward_append word to n1 t u h.forward (subst (λ n. IsForward word to n u) (sym h.behind_them) k.forward);
   }
 
   -- nothing is loaded
@@ -75,21 +115,48 @@ module _ (extent : Extent) where
   same_tree n x y e = record { same = ap (answer memory) e; words = ap (loaded memory) e; behind_them = refl; forward = tt }
 
   -- a word is loaded
-  pub load_leads : (next p w : ℕ) (k : ℕ → Tree Out) (v : ℕ) → memory (p / 8) ≡ v → next ≤ p / 8 → 0 < w → p % 8 + w ≤ 8 → p + w ≤ to
-      → Leading next (p / 8 + 1) (Loads (p / 8) k) (k v) (places_from p w)
+  pub load_leads : (next p w : ℕ) (k : ℕ → Tree Out) (v : ℕ) → memory (word p) ≡ v → next ≤ word p → 0 < w → AreInOne word p w → p + w ≤ to
+      → Leading next (word p + 1) (Loads (word p) k) (k v) (places_from p w)
   load_leads next p w k v e n s l inside = record {
     same = ap (λ x. answer memory (k x)) e;
-    words = ap (λ x. p / 8 ∷ loaded memory (k x)) e ∙ ap (λ ws. ws ++ loaded memory (k v)) (sym (fresh_new next p w n s l));
-    behind_them = behind_new next p w n s l;
-    forward = forward_places to next p w (omega (arith, n)) inside;
+    words = ap (λ x. word p ∷ loaded memory (k x)) e ∙ ap (λ ws. ws ++ loaded memory (k v)) (sym (fresh_new word next p w n s l));
+    behind_them = behind_new word next p w n s l;
+    forward = forward_places numbering to next p w (omega (arith, n)) inside;
   }
 
-  pub held_leads : (next p w : ℕ) (x y : Tree Out) → x ≡ y → next ≡ p / 8 + 1 → p % 8 + w ≤ 8 → p + w ≤ to → Leading next (p / 8 + 1) x y (places_from p w)
-  held_leads next p w x y e n l inside = record {
-    same = ap (answer memory) e;
-    words = ap (loaded memory) e ∙ ap (λ ws. ws ++ loaded memory y) (sym (fresh_none next p w (omega (arith, n, l))));
-    behind_them = behind_none next p w (omega (arith, n, l)) ∙ n;
-    forward = forward_places to next p w (omega (arith, n)) inside;
+  pub held_leads : (next p w : ℕ) (x y : Tree Out) → x ≡ y → next ≡ word p + 1 → AreInOne word p w → p + w ≤ to
+      → Leading next (word p + 1) x y (places_from p w)
+  held_leads next p w x y e n l inside =
+      let all : (q : ℕ) → p ≤ q → q < p + w → word q < next = λ q a b. let r = l q a b in omega (arith, r, n) in
+      record {
+        same = ap (answer memory) e;
+        words = ap (loaded memory) e ∙ ap (λ ws. ws ++ loaded memory y) (sym (fresh_none word next p w all));
+        behind_them = behind_none word next p w all ∙ n;
+        forward = forward_places numbering to next p w (omega (arith, n)) inside;
+      }
+
+  -- a number is taken
+  pub taken_leads : (s : Locals) (tree : Tree Out) (p w v : ℕ) (t : IsTaken word memory s tree (places_from p w) v (word (p + w - 1))) → 0 < w
+      → s.next ≤ word p + 1 → p + w ≤ to
+      → Leading s.next (word (p + w - 1) + 1) tree (Done (Gave v t.final)) (places_from p w)
+  taken_leads s tree p zero v t some n inside = absurd (omega (arith, some))
+  taken_leads s tree p (suc w) v t some n inside =
+      let e : p + w ≡ p + suc w - 1 = omega arith in
+      record {
+        same = t.gives;
+        words = t.words ∙ sym (append-nil (fresh word s.next (places_from p (suc w))));
+        behind_them = behind_places numbering s.next p w n ∙ ap (λ q. word q + 1) e;
+        forward = forward_places numbering to s.next p (suc w) n inside;
+      }
+
+  -- bytes are copied
+  pub copied_leads : (s : Locals) (tree : Tree Out) (buffer p w : ℕ) (t : IsCopied word memory basis s tree buffer p w) → s.next ≤ word p + 1 → p + w ≤ to
+      → Leading s.next t.final.next tree (Done (Gave w t.final)) (places_from p w)
+  copied_leads s tree buffer p w t n inside = record {
+    same = t.gives;
+    words = t.words ∙ sym (append-nil (fresh word s.next (places_from p w)));
+    behind_them = t.then;
+    forward = forward_places numbering to s.next p w n inside;
   }
 
   pub pre : (n m : ℕ) (x y z : Tree Out) (t : List ℕ) → x ≡ y → Leading n m y z t → Leading n m x z t
@@ -104,7 +171,7 @@ module _ (extent : Extent) where
   asked n m tree v t s x go touched h = record {
     same = answer_bind memory tree (after_helper x s go) ∙ ap (λ o. answer memory (after_helper x s go o)) h.same;
     words = loaded_bind memory tree (after_helper x s go) ∙ ap (λ ws. ws ++ loaded memory (after_helper x s go (answer memory tree)))
-        (h.words ∙ append-nil (fresh n touched)) ∙ ap (λ o. fresh n touched ++ loaded memory (after_helper x s go o)) h.same;
+        (h.words ∙ append-nil (fresh word n touched)) ∙ ap (λ o. fresh word n touched ++ loaded memory (after_helper x s go o)) h.same;
     behind_them = h.behind_them;
     forward = h.forward;
   }

@@ -7,3 +7,5 @@ pub mod Leading
 pub mod Fetching
 pub mod Buffers
 pub mod CopyHelper
+pub mod PlainReader
+pub mod PartsReader

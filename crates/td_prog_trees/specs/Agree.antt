@@ -1,5 +1,5 @@
 -- When a tree of the small C agrees with an exit of code (own rule).
-use Rattle.std.specs.Prelude.{◌≡◌, ℕ, ◌+◌, ◌*◌, ◌/◌, ◌^◌, ◌<◌, ◌≤◌, cond, List, [], ◌∷◌, length, map, take, slice_index, slice_index_or, nat_lt}
+use Rattle.std.specs.Prelude.{◌≡◌, ℕ, zero, suc, ◌+◌, ◌*◌, ◌^◌, ◌<◌, ◌≤◌, cond, List, [], ◌∷◌, length, map, take, slice_index, slice_index_or, nat_lt}
 use Rattle.td_num.specs.Numbers.{places_from}
 use Rattle.td_num.specs.Lists.{Each}
 use Rattle.td_core.specs.declared.outcome.Reason.{Reason}
@@ -8,16 +8,26 @@ use Rattle.td_ir.specs.State.{State, Way, Returned, Turned, Failed, Stuck, Exit}
 use Rattle.td_prog.specs.Tree.{Tree, answer, loaded}
 use Rattle.td_prog.specs.Values.{Locals}
 use Rattle.td_prog.specs.Means.{Out, Gave, Refused, Undefined, Continuation}
-use Rattle.td_prog_trees.specs.Memory.{IsMemory, HasHeld}
+use Rattle.td_prog_trees.specs.Memory.{HasHeld}
+
+-- the number of each place's message word; they rise with the places
+pub record Numbering : Type 0 where
+  pub word : ℕ → ℕ
+  pub rises : (p q : ℕ) → p ≤ q → word p ≤ word q
 
 -- the words of places, from a word on, each once; and the word behind them
-abbrev pub fresh : ℕ → List ℕ → List ℕ
-fresh next [] = []
-fresh next (p ∷ ps) = cond (nat_lt (p / 8) next) (fresh next ps) (p / 8 ∷ fresh (p / 8 + 1) ps)
+abbrev pub fresh : (ℕ → ℕ) → ℕ → List ℕ → List ℕ
+fresh word next [] = []
+fresh word next (p ∷ ps) = cond (nat_lt (word p) next) (fresh word next ps) (word p ∷ fresh word (word p + 1) ps)
 
-abbrev pub behind : ℕ → List ℕ → ℕ
-behind next [] = next
-behind next (p ∷ ps) = cond (nat_lt (p / 8) next) (behind next ps) (behind (p / 8 + 1) ps)
+abbrev pub behind : (ℕ → ℕ) → ℕ → List ℕ → ℕ
+behind word next [] = next
+behind word next (p ∷ ps) = cond (nat_lt (word p) next) (behind word next ps) (behind word (word p + 1) ps)
+
+-- the word behind those of the places before one
+abbrev pub reached : (ℕ → ℕ) → ℕ → ℕ
+reached word zero = 0
+reached word (suc p) = word p + 1
 
 -- words that rise, from one on
 abbrev pub RisesFrom : ℕ → List ℕ → Type 0
@@ -25,9 +35,9 @@ RisesFrom m [] = Unit {0}
 RisesFrom m (w ∷ ws) = (m ≤ w) × RisesFrom (w + 1) ws
 
 -- places before an end that never lead back behind a word that was loaded, but to the last one
-abbrev pub IsForward : (to next : ℕ) → List ℕ → Type 0
-IsForward to next [] = Unit {0}
-IsForward to next (p ∷ ps) = (next ≤ p / 8 + 1) × (p < to) × IsForward to (p / 8 + 1) ps
+abbrev pub IsForward : (ℕ → ℕ) → (to next : ℕ) → List ℕ → Type 0
+IsForward word to next [] = Unit {0}
+IsForward word to next (p ∷ ps) = (next ≤ word p + 1) × (p < to) × IsForward word to (word p + 1) ps
 
 -- what a run stands on: the message, the lengths of the run's buffers, and how many of its cells stand before those of buffers
 pub record Basis : Type 0 where
@@ -38,14 +48,14 @@ pub record Basis : Type 0 where
 -- the part of a run on memory that stays which one function does: it was called at a position, with this end
 pub record Extent : Type 0 where
   pub memory : ℕ → ℕ
+  pub numbering : Numbering
   pub basis : Basis
   pub open basis use *
   pub from : ℕ
   pub to : ℕ
 
--- an extent within a message of less than 2^32 bytes, which memory holds
+-- an extent within a message of less than 2^32 bytes
 pub record IsWithin (extent : Extent) : Type 0 where
-  pub holds : IsMemory extent.memory extent.message
   pub short : length extent.message < 2 ^ 32
   pub inside : extent.to ≤ length extent.message
 
@@ -78,7 +88,7 @@ pub record IsGood (extent : Extent) (s : Locals) : Type 0 where
   pub within : s.pos ≤ s.end
   pub window : s.end ≤ s.outer
   pub short : s.outer ≤ extent.to
-  pub ahead : s.next ≤ (s.pos + 7) / 8
+  pub ahead : s.next ≤ reached extent.numbering.word s.pos
   pub held : HasHeld extent.memory s
   pub regs : Each (λ v. v < 2 ^ 64) s.regs
   pub cells : Each (λ v. v < 2 ^ 64) s.cells
@@ -105,11 +115,11 @@ IsFailure reason pos trace cells Undefined = ⊥
 -- where code is stuck
 abbrev pub AgreesBy : Extent → (next : ℕ) → Tree Out → List ℕ → Way → Type 0
 AgreesBy extent next tree touched (Returned pos cells) =
-    IsReturn extent (behind next touched) pos cells (answer extent.memory tree) ×
-    (loaded extent.memory tree ≡ fresh next touched) × IsForward extent.to next touched
+    IsReturn extent (behind extent.numbering.word next touched) pos cells (answer extent.memory tree) ×
+    (loaded extent.memory tree ≡ fresh extent.numbering.word next touched) × IsForward extent.numbering.word extent.to next touched
 AgreesBy extent next tree touched (Turned s) = Unit {0}
 AgreesBy extent next tree touched (Failed reason pos trace cells) =
-    IsFailure reason pos trace cells (answer extent.memory tree) × (loaded extent.memory tree ≡ fresh next touched) × IsForward extent.to next touched
+    IsFailure reason pos trace cells (answer extent.memory tree) × (loaded extent.memory tree ≡ fresh extent.numbering.word next touched) × IsForward extent.numbering.word extent.to next touched
 AgreesBy extent next tree touched Stuck = Unit {0}
 
 abbrev pub Agrees : Extent → (next : ℕ) → Tree Out → Exit → Type 0

@@ -1,3 +1,4 @@
 pub mod Memory
 pub mod Agree
+pub mod Readers
 pub mod Laws

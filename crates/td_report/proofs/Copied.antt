@@ -2,8 +2,7 @@
 use Rattle.std.proofs.Common.{◌≡◌, ℕ, List, [], ◌∷◌, ◌++◌, map, length, refl, sym, ◌∙◌, append_assoc, arith, codes}
 use Rattle.std.proofs.lemmas.List.Elements.{All-head, All-tail, All-nil, All-cons}
 use Rattle.std.specs.List.{All}
-use Rattle.td_core.specs.declared.module.Module.{Module}
-use Rattle.td_core.specs.declared.module.Buffer.{Buffer}
+use Rattle.td_report.specs.Imports.{Module, Buffer}
 use Rattle.td_core.specs.Entries.{name_bytes}
 use Rattle.td_report.specs.ErrorLine.{after_space}
 use Rattle.td_report.specs.Report.{line, byte_digits, CopyValue, copy_value, with_bytes, copy_line}

@@ -1,10 +1,7 @@
 -- Lines by the pieces of the names in them.
 use Rattle.std.proofs.Common.{◌≡◌, ℕ, List, [], ◌∷◌, ◌++◌, Some, None, sym, ap, ◌∙◌, append_assoc, codes, decimal}
 use Rattle.std.proofs.lemmas.List.{append-nil}
-use Rattle.td_core.specs.declared.module.Module.{Module}
-use Rattle.td_core.specs.declared.module.NameId.{NameId}
-use Rattle.td_core.specs.declared.module.Buffer.{Buffer}
-use Rattle.td_core.specs.declared.outcome.TraceFrame.{TraceFrame}
+use Rattle.td_report.specs.Imports.{Module, NameId, Buffer, TraceFrame}
 use Rattle.td_core.specs.Entries.{name_bytes}
 use Rattle.td_report.specs.ErrorLine.{after_space}
 use Rattle.td_report.specs.Report.{byte_digits, spot_word, frame_line, field_word, CellValue, cell_line, copy_value, copy_line}

@@ -5,8 +5,7 @@ use Rattle.std.proofs.lemmas.Fmt.{decimal_injective}
 use Rattle.std.proofs.lemmas.List.Elements.{All-head, All-tail}
 use Rattle.std.proofs.lemmas.Option.{same_Some}
 use Rattle.std.specs.List.{All}
-use Rattle.td_stream.specs.declared.load.Load.{Load}
-use Rattle.td_stream.specs.declared.stretch.Stretch.{Stretch}
+use Rattle.td_report.specs.Imports.{Load, Stretch}
 use Rattle.td_stream.specs.Layouts.{count_in, pair_at}
 use Rattle.td_stream.specs.Laws.{Before}
 use Rattle.td_stream.proofs.Plain.{pairs_rise}

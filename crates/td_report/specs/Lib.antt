@@ -1,3 +1,4 @@
+pub mod Imports
 pub mod Report
 pub mod ErrorLine
 pub mod Laws

@@ -27,7 +27,7 @@ pub fn digits_of(value: u64) -> [u8; 16]
 
 /// The two digits of a byte, the one of most weight first.
 #[tactic(auto, unfolding(crate::specs::Report::hex_digits))]
-pub fn two_digits_of(value: u8) -> [u8; 2]
+pub(crate) fn two_digits_of(value: u8) -> [u8; 2]
     ensures { result ≡ hex_digits 2 value }
 {
     let value = u64::from(value);

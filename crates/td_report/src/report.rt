@@ -277,6 +277,22 @@ fn write_loads<O: Sink>(
 /// Takes no memory.
 ///
 /// `WriteFault`: a write failed. What went out is a prefix of the report.
+///
+/// The lines of a verdict and its frames, of an entry point without cells and copy buffers, without those of its loads:
+///
+/// ```
+/// use td_core::{Entry, Module, Verdict};
+/// use td_io::{Sink, WriteFault};
+/// use td_report::{OutcomeParts, report_of_parts};
+/// use td_stream::Buffer;
+/// use td_vm::Frame;
+///
+/// fn report<O: Sink>(m: &Module, entry: Entry, verdict: Verdict, frame: &Frame, out: &mut O) -> Result<(), WriteFault> {
+///     let none: &[Buffer] = &[];
+///     let outcome = OutcomeParts { verdict, trace: frame.trace(), cells: frame.cells(), copies: none };
+///     report_of_parts(&outcome, m, entry, &[], None, None, out)
+/// }
+/// ```
 pub fn report_of_parts<O: Sink, B: CopyBuffer>(
     outcome: &OutcomeParts<'_, B>,
     m: &Module,

@@ -7,9 +7,7 @@ use Rattle.td_core.specs.Formed.{AllFit, cells_at}
 use Rattle.td_core.specs.Entries.{entry_definition}
 use Rattle.td_job.specs.declared.error.Key.TheVariants as key
 use Rattle.td_job.specs.Jobs.{spelled_word}
-use Rattle.td_posts.specs.declared.job.Step.{Step}
-use Rattle.td_posts.specs.declared.job.Step.TheVariants.{Store, Post, Scatter}
-use Rattle.td_posts.specs.declared.mail.Mail.{Mail}
+use Rattle.td_report_facts.specs.Imports.{Step, Store, Post, Scatter, Mail}
 use Rattle.td_posts.specs.Posts.{list_of, all_mails, stores_of, zeros}
 use Rattle.td_job_host.proofs.Zeros.{zeros_fit}
 use Rattle.td_job_host.specs.Steps.{SpelledStep, SpelledStore, SpelledPost, SpelledScatter, spelled_step, store_with, step_in, each_step}

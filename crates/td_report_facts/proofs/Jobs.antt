@@ -13,10 +13,8 @@ use Rattle.serde_json.specs.Data.{Data, Items, no_items, item}
 use Rattle.serde_json.specs.Events.{items_len}
 use Rattle.serde_json.specs.Find.{as_array}
 use Rattle.td_stream.specs.declared.layout.TheConstants.{MOST_STRETCHES}
-use Rattle.td_core.specs.declared.module.Module.{Module}
-use Rattle.td_sched.specs.declared.store.PlannedStore.{PlannedStore}
+use Rattle.td_report_facts.specs.Imports.{Module, PlannedStore, RunJob}
 use Rattle.td_job.specs.declared.error.Key.TheVariants as key
-use Rattle.td_job.specs.declared.run_job.RunJob.{RunJob}
 use Rattle.td_num.specs.Lists.{AreBytes}
 use Rattle.td_num.specs.Numbers.{rising_at}
 use Rattle.td_num.proofs.Digits.{rising_small}

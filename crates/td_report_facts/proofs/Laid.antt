@@ -3,8 +3,7 @@
 use Rattle.std.proofs.Common.{inl, inr, ℕ, ◌+◌, ◌-◌, ◌*◌, ◌^◌, ◌<◌, ◌≤◌, List, [], ◌∷◌, length, Some, None, ap, arith}
 use Rattle.std.specs.List.{All}
 use Rattle.std.proofs.lemmas.List.Elements.{All-nil, All-cons, All-head, All-tail}
-use Rattle.td_stream.specs.declared.load.Load.{Load}
-use Rattle.td_stream.specs.declared.stretch.Stretch.{Stretch}
+use Rattle.td_report_facts.specs.Imports.{Load, Stretch}
 use Rattle.td_stream.specs.Layouts.{words_in, length_in, count_in, pair_at, AreWithin}
 use Rattle.td_stream.specs.Loads.{Inside}
 use Rattle.td_stream.proofs.Buffered.{word_within}

@@ -11,14 +11,11 @@ use Rattle.td_core.specs.declared.module.NameId.{NameId}
 use Rattle.td_core.specs.declared.module.Part.{Part}
 use Rattle.td_core.specs.declared.module.Field.{Field as FieldDef}
 use Rattle.td_core.specs.declared.module.Case.{Case}
-use Rattle.td_core.specs.declared.module.Cell.{Cell}
+use Rattle.td_report_facts.specs.Imports.{Cell, TypeDef, Module, TraceFrame}
 use Rattle.td_core.specs.declared.module.Body.{Body}
 use Rattle.td_core.specs.declared.module.Body.TheVariants.{Struct, Casetype}
-use Rattle.td_core.specs.declared.module.TypeDef.{TypeDef}
-use Rattle.td_core.specs.declared.module.Module.{Module}
 use Rattle.td_core.specs.declared.outcome.Spot.{Spot}
 use Rattle.td_core.specs.declared.outcome.Spot.TheVariants.{Field, Where, Switch}
-use Rattle.td_core.specs.declared.outcome.TraceFrame.{TraceFrame}
 use Rattle.td_core.specs.WellFormed.{OfSome, EachField, IsNameThere, IsDefinitionNamed}
 use Rattle.td_lexer.specs.Bytes.{is_word_byte, every}
 use Rattle.td_lexer.specs.Splits.{IsName, IsDotted, IsLongName}

@@ -6,15 +6,11 @@ use Rattle.std.proofs.lemmas.List.Elements.{All-nil, All-cons, All-head, All-tai
 use Rattle.serde_json.specs.Data.{Data, Items, no_items, item}
 use Rattle.serde_json.specs.Find.{as_str, as_array}
 use Rattle.td_stream.specs.declared.layout.TheConstants.{MOST_STRETCHES}
-use Rattle.td_stream.specs.declared.stretch.Stretch.{Stretch}
-use Rattle.td_job.specs.declared.error.Key.{Key}
+use Rattle.td_report_facts.specs.Imports.{Stretch, Key, Step, Store, Post, Scatter, Mail}
 use Rattle.td_job.specs.declared.error.Key.TheVariants as key
 use Rattle.td_job.specs.Fields.{whole, field_of}
 use Rattle.td_job.specs.Jobs.{spelled_word}
 use Rattle.td_job.specs.Stretches.{each_stretch}
-use Rattle.td_posts.specs.declared.job.Step.{Step}
-use Rattle.td_posts.specs.declared.job.Step.TheVariants.{Store, Post, Scatter}
-use Rattle.td_posts.specs.declared.mail.Mail.{Mail}
 use Rattle.td_posts.specs.Posts.{mail, scattered, post_name, list_of, laid_at, mails_from, mails_of, all_mails}
 use Rattle.td_job_host.specs.Steps.{are_stretches, SpelledScatter, spelled_store, spelled_post, spelled_scatter, by_verb, by_list, step_parts, spelled_step, store_with, step_in, each_step}
 use Rattle.td_job_host.specs.Guests.{listed_in, listed_steps, given_script, each_script, listed_scripts, given_guests}

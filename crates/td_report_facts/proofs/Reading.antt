@@ -14,8 +14,7 @@ use Rattle.json.specs.Json as json
 use Rattle.serde_json.specs.Data.{Num, unsigned, negative, float, Data, null, boolean, number, string, array, object, Items, no_items, item, Members, no_members, member, put}
 use Rattle.serde_json.specs.Find.{get_member, get, as_array}
 use Rattle.serde_json.specs.Read.{is_integer, float_of, number_from, number_of, of_json, of_items, of_members, max_depth, read as read_text}
-use Rattle.td_stream.specs.declared.stretch.Stretch.{Stretch}
-use Rattle.td_job.specs.declared.error.Key.{Key}
+use Rattle.td_report_facts.specs.Imports.{Stretch, Key}
 use Rattle.td_job.specs.Errors.{key_name}
 use Rattle.td_job.specs.Fields.{Reads, field_of, whole}
 use Rattle.td_job.specs.Stretches.{stretch_by, two_parts, spelled_stretch, stretch_of, each_stretch}

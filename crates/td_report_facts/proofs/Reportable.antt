@@ -9,25 +9,16 @@ use Rattle.td_num.specs.declared.number.Width.{Width}
 use Rattle.td_num.specs.declared.number.Width.TheVariants.{One, Two, Four, Eight}
 use Rattle.td_num.specs.Lists.{Each, AreBytes}
 use Rattle.td_num.specs.Numbers.{places_from}
-use Rattle.td_core.specs.declared.module.Module.{Module}
-use Rattle.td_core.specs.declared.module.Entry.{Entry}
-use Rattle.td_core.specs.declared.module.Cell.{Cell}
-use Rattle.td_core.specs.declared.module.Buffer.{Buffer}
+use Rattle.td_report_facts.specs.Imports.{Module, Entry, Cell, Buffer, TypeDef, TraceFrame, Outcome, Load, Stretch, PlannedStore}
 use Rattle.td_core.specs.declared.module.CellKind.{CellKind}
 use Rattle.td_core.specs.declared.module.CellKind.TheVariants.{Number, Pointer}
-use Rattle.td_core.specs.declared.module.TypeDef.{TypeDef}
 use Rattle.td_core.specs.declared.outcome.Reason.{Reason}
-use Rattle.td_core.specs.declared.outcome.TraceFrame.{TraceFrame}
-use Rattle.td_core.specs.declared.outcome.Outcome.{Outcome}
 use Rattle.td_core.specs.Outcome.{Ending, Accepted, Rejected, bytes_at, copies_by, outcome_of}
 use Rattle.td_core.specs.Entries.{entry_definition}
 use Rattle.td_core.specs.Formed.{AllFit, cell_bound, cell_bounds}
 use Rattle.td_core.specs.WellFormed.{IsNameThere, IsDefinitionNamed}
-use Rattle.td_stream.specs.declared.load.Load.{Load}
-use Rattle.td_stream.specs.declared.stretch.Stretch.{Stretch}
 use Rattle.td_stream.specs.Layouts.{buffer_word}
 use Rattle.td_stream.specs.Loads.{buffered}
-use Rattle.td_sched.specs.declared.store.PlannedStore.{PlannedStore}
 use Rattle.td_sched.specs.Plan.{numbered, up_to, to_word, last_value, at, ArePlanned}
 use Rattle.td_meaning.specs.Framing.{AllFor, IsFramed, AreNamed}
 use Rattle.td_meaning.specs.Endings.{AreCells, IsEndingWithin}

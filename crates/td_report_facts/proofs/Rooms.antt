@@ -1,8 +1,7 @@
 -- What a checked module copies fits the rooms of its copy buffers.
 use Rattle.std.proofs.Common.{◌≡◌, ℕ, ◌<◌, ◌^◌, List, [], ◌∷◌, length, map, Some, sym, subst, arith}
 use Rattle.td_num.proofs.Lists.{got, each_at}
-use Rattle.td_core.specs.declared.module.Buffer.{Buffer}
-use Rattle.td_core.specs.declared.module.TypeDef.{TypeDef}
+use Rattle.td_report_facts.specs.Imports.{Buffer, TypeDef}
 use Rattle.td_core.specs.Entries.{entry_definition}
 use Rattle.td_core.specs.Formed.{AllFit, params_at, cells_at}
 use Rattle.td_core.proofs.Found.{entry_found as entry_of}

@@ -1,12 +1,10 @@
 -- What the report of a good job's run tells.
 use Rattle.std.proofs.Common.{◌≡◌, ℕ, ◌+◌, ◌*◌, ◌<◌, ◌≤◌, List, length, replicate, Option, Some, None, sym, ap, subst, arith, length-append}
 use Rattle.std.proofs.lemmas.List.{length-replicate}
-use Rattle.td_stream.specs.declared.load.Load.{Load}
-use Rattle.td_stream.specs.declared.stretch.Stretch.{Stretch}
+use Rattle.td_report_facts.specs.Imports.{Load, Stretch, TypeDef}
 use Rattle.td_stream.specs.Layouts.{length_in, plain, layout_or_plain}
 use Rattle.td_stream.specs.Loads.{Inside}
 use Rattle.std.specs.List.{All}
-use Rattle.td_core.specs.declared.module.TypeDef.{TypeDef}
 use Rattle.td_core.specs.Entries.{entry_definition}
 use Rattle.td_core.specs.Formed.{AllFit, params_at, cells_at}
 use Rattle.td_core.specs.WellFormed.{IsDefinitionNamed}

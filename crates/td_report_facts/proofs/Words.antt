@@ -2,11 +2,9 @@
 use Rattle.std.proofs.Common.{◌≡◌, ℕ, ◌<◌, ◌≤◌, List, length, subst, sym, Option, Some, None}
 use Rattle.std.specs.List.{All}
 use Rattle.std.proofs.lemmas.List.Elements.{All-weaker}
-use Rattle.td_stream.specs.declared.load.Load.{Load}
-use Rattle.td_stream.specs.declared.stretch.Stretch.{Stretch}
+use Rattle.td_report_facts.specs.Imports.{Load, Stretch, RunJob}
 use Rattle.td_stream.specs.Layouts.{count_in, loadable, layout_or_plain, plain, IsNumberOf, IsOver}
 use Rattle.td_stream.specs.Loads.{Inside}
-use Rattle.td_job.specs.declared.run_job.RunJob.{RunJob}
 use Rattle.td_job.specs.Jobs.{HasRoom}
 
 -- the message lies in words that are the job's, by a layout that is

@@ -2,26 +2,18 @@
 use Rattle.std.specs.Prelude.{◌≡◌, ℕ, ◌^◌, ◌<◌, ◌≤◌, List, length, slice_index, Option, Some, None}
 use Rattle.std.specs.List.{All}
 use Rattle.td_num.specs.Lists.{AreBytes}
-use Rattle.td_core.specs.declared.module.Module.{Module}
-use Rattle.td_core.specs.declared.module.Entry.{Entry}
-use Rattle.td_core.specs.declared.outcome.Outcome.{Outcome}
+use Rattle.td_report_facts.specs.Imports.{Module, Entry, Outcome, Load, Stretch, PlannedStore, RunJob, Step, Mail}
 use Rattle.td_core.specs.Entries.{entry_definition}
 use Rattle.td_core.specs.Formed.{AllFit, params_at, cells_at}
-use Rattle.td_stream.specs.declared.load.Load.{Load}
 use Rattle.td_stream.specs.declared.layout.TheConstants.{MOST_STRETCHES}
-use Rattle.td_stream.specs.declared.stretch.Stretch.{Stretch}
 use Rattle.td_stream.specs.Layouts.{length_in, layout_or_plain}
 use Rattle.td_stream.specs.Loads.{Inside, buffered}
-use Rattle.td_sched.specs.declared.store.PlannedStore.{PlannedStore}
 use Rattle.td_sched.specs.Plan.{ArePlanned}
 use Rattle.td_meaning.specs.Copies.{outcome}
 use Rattle.td_front.specs.Checked.{IsChecked}
 use Rattle.td_job.specs.declared.checks.TheConstants.{MOST_BYTES}
-use Rattle.td_job.specs.declared.run_job.RunJob.{RunJob}
 use Rattle.td_job.specs.Jobs.{IsRunJob, HasValues}
 use Rattle.td_posts.specs.declared.job.HostJob.{HostJob}
-use Rattle.td_posts.specs.declared.job.Step.{Step}
-use Rattle.td_posts.specs.declared.mail.Mail.{Mail}
 use Rattle.td_posts.specs.Posts.{IsVersion, list_of, stores_of, zeros, HaveRoom}
 use Rattle.td_posts.specs.Servable.{job_mails}
 use Rattle.td_job_host.specs.HostJobs.{rooms_in, IsHostJob, KeepsLimits}

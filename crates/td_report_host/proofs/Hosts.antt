@@ -2,14 +2,11 @@
 use Rattle.std.proofs.Common.{◌≡◌, ℕ, List, ◌++◌, flat_map, Option, sym, ◌∙◌, lit<}
 use Rattle.std.proofs.lemmas.Grind.{flat_map-append}
 use Rattle.std.specs.List.{All}
-use Rattle.td_core.specs.declared.module.Module.{Module}
-use Rattle.td_core.specs.declared.module.Entry.{Entry}
+use Rattle.td_report_host.specs.Imports.{Module, Entry, Reply, Take}
 use Rattle.td_report.specs.Report.{line}
 use Rattle.td_report.specs.Laws.{HasWords}
 use Rattle.td_report.proofs.Cutting.{AreLines, lines_append, same_lines}
 use Rattle.td_report.proofs.Lines.{differ}
-use Rattle.td_posts.specs.declared.reply.Reply.{Reply}
-use Rattle.td_takes.specs.declared.take.Take.{Take}
 use Rattle.td_report_host.specs.Report.{host_report}
 use Rattle.td_report_host.specs.Laws.{IsReportable, IsReportableTake, HostReportsDetermineReplies}
 use Rattle.td_report_host.proofs.Lines.{Others, cut_seam}

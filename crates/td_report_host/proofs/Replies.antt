@@ -8,14 +8,12 @@ use Rattle.std.proofs.lemmas.Grind.{flat_map-append}
 use Rattle.std.proofs.lemmas.List.Elements.{All-head, All-tail, All-cons, All-nil}
 use Rattle.std.specs.List.{All}
 use Rattle.std.proofs.lemmas.List.{append-nil}
-use Rattle.td_core.specs.declared.module.Module.{Module}
-use Rattle.td_core.specs.declared.module.Entry.{Entry}
+use Rattle.td_report_host.specs.Imports.{Module, Entry, Reply}
 use Rattle.td_report.specs.Report.{line}
 use Rattle.td_report.specs.Laws.{HasWords, HasNoSpotWord}
 use Rattle.td_report.proofs.Cutting.{above_append, AreLines, lines_append}
 use Rattle.td_report.proofs.Lines.{differ, decimal_above}
 use Rattle.td_report.proofs.Determining.{both_all}
-use Rattle.td_posts.specs.declared.reply.Reply.{Reply}
 use Rattle.td_report_host.specs.Report.{reply_line, version_line, reply_report}
 use Rattle.td_report_host.specs.Laws.{ReportedRun, reported_run, ReportedReply, reported_reply, IsReportable}
 use Rattle.td_report_host.proofs.Lines.{Others, IsSeam, cut_seam, pair_words, pair_above, same_pair}

@@ -4,21 +4,13 @@ use Rattle.std.specs.Prelude.{slice_get}
 use Rattle.std.proofs.lemmas.Option.{slice_get_within, get_or_from_slice_get, same_Some}
 use Rattle.std.proofs.lemmas.List.Elements.{All-cons, All-nil}
 use Rattle.std.specs.List.{All}
-use Rattle.td_core.specs.declared.module.Module.{Module}
-use Rattle.td_core.specs.declared.module.Entry.{Entry}
-use Rattle.td_core.specs.declared.outcome.Outcome.{Outcome}
-use Rattle.td_core.specs.declared.outcome.Verdict.{Verdict}
-use Rattle.td_core.specs.declared.outcome.Verdict.TheVariants.{Accept, Reject}
-use Rattle.td_core.specs.declared.outcome.TraceFrame.{TraceFrame}
-use Rattle.td_stream.specs.declared.load.Load.{Load}
-use Rattle.td_stream.specs.declared.stretch.Stretch.{Stretch}
+use Rattle.td_report_host.specs.Imports.{Module, Entry, Outcome, Verdict, Accept, Reject, TraceFrame, Load, Stretch, Reply}
 use Rattle.td_report.specs.Report.{line, report}
 use Rattle.td_report.specs.Laws.{HasWords, HasNoSpotWord, frames_of, ShownLoad}
 use Rattle.td_report.proofs.Cutting.{AreLines}
 use Rattle.td_report.proofs.Copied.{copy_words}
 use Rattle.td_report.proofs.Lines.{verdict_words, frame_words, cell_words, load_words}
 use Rattle.td_report.proofs.Determining.{shown_cells, shown_copies, part_words, report_by_lines, parts_are_lines, all_begin, both_all, reports_determine_outcomes}
-use Rattle.td_posts.specs.declared.reply.Reply.{Reply}
 use Rattle.td_posts.specs.Posts.{outcome_in}
 use Rattle.td_report_host.specs.Report.{run_by, run_under}
 use Rattle.td_report_host.specs.Laws.{ReportedRun, reported_run, IsReportableRun}

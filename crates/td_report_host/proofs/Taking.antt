@@ -6,21 +6,14 @@ use Rattle.std.proofs.lemmas.Fmt.{decimal_injective}
 use Rattle.std.proofs.lemmas.Grind.{flat_map-append}
 use Rattle.std.proofs.lemmas.List.Elements.{All-head, All-tail, All-cons, All-nil}
 use Rattle.std.specs.List.{All}
-use Rattle.td_core.specs.declared.module.Module.{Module}
-use Rattle.td_core.specs.declared.module.Entry.{Entry}
+use Rattle.td_report_host.specs.Imports.{Module, Entry, Verdict, Accept, Reject, Reply, Next, Idle, Overrun, Bad, Message, Take}
 use Rattle.td_core.specs.declared.outcome.Reason.TheVariants.{NotEnough}
-use Rattle.td_core.specs.declared.outcome.Verdict.{Verdict}
-use Rattle.td_core.specs.declared.outcome.Verdict.TheVariants.{Accept, Reject}
 use Rattle.td_report.specs.Report.{line, hex_digits}
 use Rattle.td_report.specs.Laws.{HasWords, HasNoSpotWord}
 use Rattle.td_report.proofs.Cutting.{Above, above_append, after, AreLines, lines_append}
 use Rattle.td_report.proofs.Hexadecimals.{hex_above, same_value}
 use Rattle.td_report.proofs.Lines.{first_of, differ, decimal_above, verdict_words}
 use Rattle.td_report.proofs.Determining.{both_all}
-use Rattle.td_posts.specs.declared.reply.Reply.{Reply}
-use Rattle.td_descr.specs.declared.next.Next.{Next}
-use Rattle.td_descr.specs.declared.next.Next.TheVariants.{Idle, Overrun, Bad, Message}
-use Rattle.td_takes.specs.declared.take.Take.{Take}
 use Rattle.td_report_host.specs.Report.{ring_line, head_line, message_line, descr_report, message_report, answer_report, take_report}
 use Rattle.td_report_host.specs.Laws.{ReportedRun, reported_run, ReportedTake, reported_take, IsReportableRun, IsReportableDescr, IsReportableAnswer, IsReportableTake, AreOneModule}
 use Rattle.td_report_host.proofs.Lines.{Others, IsSeam, cut_seam, pair_words, pair_above, same_pair}

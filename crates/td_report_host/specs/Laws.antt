@@ -2,16 +2,9 @@
 use Rattle.std.specs.Prelude.{◌≡◌, ℕ, ◌<◌, ◌^◌, List, [], ◌∷◌, map, slice_get, Option, Some, None}
 use Rattle.std.specs.List.{All}
 use Rattle.std.specs.Option.{option_map}
-use Rattle.td_core.specs.declared.module.Module.{Module}
-use Rattle.td_core.specs.declared.module.Entry.{Entry}
-use Rattle.td_core.specs.declared.outcome.Outcome.{Outcome}
-use Rattle.td_core.specs.declared.outcome.Verdict.TheVariants.{Accept, Reject}
+use Rattle.td_report_host.specs.Imports.{Module, Entry, Outcome, Accept, Reject, Reply, Next, Idle, Overrun, Bad, Message, Take}
 use Rattle.td_report.specs.Laws.{HasWords, HasNoSpotWord, IsNamedOutcome, HasFrames, HasCells, HasCopies, IsShownLoad, ShownLoad, shown_loads}
-use Rattle.td_posts.specs.declared.reply.Reply.{Reply}
 use Rattle.td_posts.specs.Posts.{outcome_in}
-use Rattle.td_descr.specs.declared.next.Next.{Next}
-use Rattle.td_descr.specs.declared.next.Next.TheVariants.{Idle, Overrun, Bad, Message}
-use Rattle.td_takes.specs.declared.take.Take.{Take}
 use Rattle.td_report_host.specs.Report.{host_report}
 
 -- ---- what a report says

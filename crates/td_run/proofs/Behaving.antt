@@ -1,10 +1,8 @@
 -- The outcome of code that does what a module means is the module's. Cited by other crates.
 use Rattle.std.proofs.Common.{◌≡◌, ℕ, List, refl, sym, ap, ◌∙◌, subst, Some}
 use Rattle.std.proofs.lemmas.Option.{same_Some}
-use Rattle.td_stream.specs.declared.load.Load.{Load}
-use Rattle.td_stream.specs.declared.stretch.Stretch.{Stretch}
+use Rattle.td_run.specs.Imports.{Load, Stretch, Outcome}
 use Rattle.td_stream.specs.Loads.{Exactly}
-use Rattle.td_core.specs.declared.outcome.Outcome.{Outcome}
 use Rattle.td_core.specs.Outcome.{Behavior, Ending, Accepted, Rejected, outcome_of}
 use Rattle.td_ir.specs.State.{Exit}
 use Rattle.td_fetch.specs.Outcomes.{IsBehaviorOf}

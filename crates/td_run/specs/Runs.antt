@@ -1,14 +1,9 @@
 -- What a run by code comes to, while others store to the words by a plan (own rule).
 use Rattle.std.specs.Prelude.{ℕ, List, Option}
-use Rattle.td_core.specs.declared.module.Entry.{Entry}
-use Rattle.td_core.specs.declared.outcome.Outcome.{Outcome}
-use Rattle.td_stream.specs.declared.load.Load.{Load}
-use Rattle.td_stream.specs.declared.stretch.Stretch.{Stretch}
+use Rattle.td_run.specs.Imports.{Entry, Outcome, Load, Stretch, PlannedStore, Parts}
 use Rattle.td_stream.specs.Layouts.{layout_or_plain}
 use Rattle.td_stream.specs.Loads.{buffered}
-use Rattle.td_sched.specs.declared.store.PlannedStore.{PlannedStore}
 use Rattle.td_sched.specs.Plan.{ArePlanned}
-use Rattle.td_ir.specs.declared.tables.Parts.{Parts}
 use Rattle.td_run.specs.Validation.{IsValidation}
 
 -- what a run is of: an entry point of code, with arguments and cells, and the words of the buffer in which a message of so many bytes

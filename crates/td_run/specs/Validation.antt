@@ -1,14 +1,10 @@
 -- What a validation by code comes to, whatever others store to the message's words meanwhile (own rule).
 use Rattle.std.specs.Prelude.{ℕ, List, length}
 use Rattle.td_core.specs.declared.module.Module.{Module}
-use Rattle.td_core.specs.declared.module.Entry.{Entry}
-use Rattle.td_core.specs.declared.outcome.Outcome.{Outcome}
+use Rattle.td_run.specs.Imports.{Entry, Outcome, Load, Stretch, Parts}
 use Rattle.td_meaning.specs.Copies.{IsSoundOn}
-use Rattle.td_stream.specs.declared.load.Load.{Load}
-use Rattle.td_stream.specs.declared.stretch.Stretch.{Stretch}
 use Rattle.td_stream.specs.Loads.{IsFetchedOnce}
 use Rattle.td_fetch.specs.Outcomes.{IsMeant}
-use Rattle.td_ir.specs.declared.tables.Parts.{Parts}
 use Rattle.td_ir.specs.Entries.{opened_by}
 use Rattle.td_ir.specs.Run.{run}
 use Rattle.td_lower_means.specs.CodeRun.{IsCodeOf}

@@ -68,6 +68,24 @@ fn validate_counted<W: Words, L: Ledger, C: Counter>(
 /// left with, are those of the code's run (td_vm's law `run_is_bounded` bounds its steps); where it is the code of a module, and every
 /// expression that the meaning evaluates lies in its type's range (as in a module that passed the safety rule), they are those of the
 /// module's meaning. The buffers behind the entry point's are empty.
+///
+/// Where an accepted message ends, of an entry point whose argument is the message's length; the frame serves the next one:
+///
+/// ```
+/// use td_core::{Entry, Verdict};
+/// use td_run::validate_compiled;
+/// use td_stream::{Layout, Words};
+/// use td_verify::Verified;
+/// use td_vm::Frame;
+///
+/// fn end_of<W: Words>(code: &Verified, entry: Entry, length: u32, frame: &mut Frame, words: &mut W) -> Option<u32> {
+///     let layout = Layout::plain(length);
+///     match validate_compiled(code, entry, &[u64::from(length)], &layout, frame, words) {
+///         Verdict::Accept { pos } => Some(pos),
+///         Verdict::Reject { .. } => None,
+///     }
+/// }
+/// ```
 pub fn validate_compiled<W: Words>(
     code: &Verified,
     entry: Entry,
@@ -138,6 +156,24 @@ pub fn validate_with_steps<W: Words>(
 }
 
 /// Validates as `validate_compiled` does, and keeps each load in an empty list that has room for one of each word.
+///
+/// How many words of a message were loaded, by code whose entry point takes no arguments:
+///
+/// ```
+/// use std::alloc::{AllocError, Global};
+/// use td_core::Entry;
+/// use td_run::validate_recorded;
+/// use td_stream::{Layout, Loads, Words};
+/// use td_verify::Verified;
+/// use td_vm::Frame;
+///
+/// fn loaded<W: Words>(alloc: Global, code: &Verified, entry: Entry, layout: &Layout, words: &mut W) -> Result<usize, AllocError> {
+///     let mut frame = Frame::arm(alloc, code)?;
+///     let mut loads = Loads::with_room(alloc, words.count())?;
+///     validate_recorded(code, entry, &[], layout, &mut frame, words, &mut loads);
+///     Ok(loads.as_slice().len())
+/// }
+/// ```
 pub fn validate_recorded<W: Words>(
     code: &Verified,
     entry: Entry,

@@ -111,6 +111,20 @@ impl<'a> Planned<'a> {
     /// loads come: by rising number, and within one number in the order given here. A store to a word that isn't
     /// there changes nothing. The words aren't copied. `AllocError`: there was no memory for this; never where there are neither
     /// words nor stores.
+    ///
+    /// A load of a word that opens with 5, and to which 7 is stored before the first load, which gives 7:
+    ///
+    /// ```
+    /// use std::alloc::{AllocError, Global};
+    /// use td_sched::{Planned, PlannedStore};
+    /// use td_stream::Words;
+    ///
+    /// fn loaded(alloc: Global) -> Result<u64, AllocError> {
+    ///     let store = PlannedStore { before: 0, word: 0, value: 7 };
+    ///     let mut words = Planned::open(alloc, &[5], &[store])?;
+    ///     Ok(words.load(0))
+    /// }
+    /// ```
     pub fn open(
         alloc: Global,
         words: &'a [u64],

@@ -61,7 +61,7 @@ impl Publisher {
         ensures codes { arc_value self.new.codes ≡ arc_value self.old.codes }
         ensures seat { self.new.seat ≡ self.old.seat }
         ensures made { OnOk result (self.new.maker ≡ then_split self.old.maker) }
-        ensures unmade { OnErr result (self.new.maker ≡ self.old.maker) }
+        ensures unmade { OnErr result (self.new ≡ self.old) }
         ensures shared { IfOk result (λ r. arc_value r.codes ≡ arc_value self.old.codes) }
         ensures fresh { IfOk result (λ r. r.seat ≡ swap_state (arc_value self.old.codes).table (new_view (length (arc_value self.old.codes).codes))) }
     {

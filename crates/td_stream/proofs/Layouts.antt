@@ -164,7 +164,7 @@ laid_at (p ∷ ps) a b (suc k) d h lt =
     let words = s.words in
     (omega (arith, r.0, h.0, some), omega (arith, r.1, h.1, words), r.2)
 
-pub part_is : (ps : List Part) (k : ℕ) (d : Part) → AreLaid 0 0 ps → length ps ≤ 64 → k < length ps → IsPart (map stretch_of ps) k (get_or ps k d)
+pub part_is : (ps : List Part) (k : ℕ) (d : Part) → AreLaid 0 0 ps → length ps ≤ 1024 → k < length ps → IsPart (map stretch_of ps) k (get_or ps k d)
 part_is ps k d h few lt =
     let p = get_or ps k d in
     let l = map stretch_of ps in

@@ -1,6 +1,6 @@
 //! How a message lies in a buffer.
 
-ghost use Rattle.std.specs.Prelude.{◌≡◌, ℕ, ◌+◌, ◌-◌, ◌/◌, ◌%◌, ◌*◌, ◌<◌, ◌≤◌, ◌^◌, [], ◌∷◌, length, option_map, IfOk, IsOk};
+ghost use Rattle.std.specs.Prelude.{◌≡◌, ℕ, ◌+◌, ◌-◌, ◌/◌, ◌%◌, ◌*◌, ◌<◌, ◌≤◌, ◌^◌, [], ◌∷◌, length, option_map, IfOk, IsOk, OnErr, vec_capacity};
 ghost use Rattle.td_stream.specs.Layouts.{length_in, count_in, word_at, offset_at, pair_at, words_in, plain, loadable};
 ghost use Rattle.td_stream.specs.Parts.{IsPart, start_of, first_of};
 
@@ -20,9 +20,13 @@ struct Part {
     after: u32,
 }
 
-/// The most stretches that a message has.
+/// The most stretches of one buffer that a message has.
 pub const MOST_STRETCHES: usize = 64;
 
+/// The most stretches that a message has, each of a buffer of its own.
+pub const MOST_PIECES: usize = 1024;
+
+// One stretch has no list, so that the layout of a message in one piece takes no memory.
 #[derive(Drop)]
 enum Parts {
     One(Part),
@@ -112,6 +116,16 @@ impl Layout {
     }
 
     /// The first bytes of the buffer. Takes no memory.
+    ///
+    /// How many words hold a message of 41 bytes, which is 6:
+    ///
+    /// ```
+    /// use td_stream::Layout;
+    ///
+    /// fn words_of_41() -> u32 {
+    ///     Layout::plain(41).count()
+    /// }
+    /// ```
     pub fn plain(length: u32) -> Layout
         ensures layout { result ≡ plain length }
         ensures bytes { length_in result ≡ length }
@@ -121,6 +135,16 @@ impl Layout {
     }
 
     /// Bytes that begin at a word of the buffer, within the words that have a number. Takes no memory.
+    ///
+    /// A message in a slot of 2,048 bytes, which are 256 words, of a buffer of such slots:
+    ///
+    /// ```
+    /// use td_stream::Layout;
+    ///
+    /// fn in_slot(slot: u16, length: u16) -> Layout {
+    ///     Layout::words(256 * u32::from(slot), u32::from(length))
+    /// }
+    /// ```
     pub fn words(base: u32, length: u32) -> Layout
         requires { 8 * base + length ≤ 2 ^ 35 }
         ensures { result ≡ (record { place = 8 * base; size = length }) ∷ [] }
@@ -128,14 +152,15 @@ impl Layout {
         Layout::single(base, 0, length)
     }
 
-    /// These stretches, one after the other: at most 64 of them, of fewer than 2^32 bytes in all. `AllocError`: there was no memory for
-    /// the list.
-    pub fn of(alloc: Global, stretches: &[Stretch]) -> Result<Layout, AllocError>
-        requires few { length stretches.now ≤ MOST_STRETCHES }
+    // These stretches, one after the other, in an empty list with room for them. Takes no memory.
+    fn laid(room: Vec<Part>, stretches: &[Stretch]) -> Layout
+        requires few { length stretches.now ≤ MOST_PIECES }
         requires short { length_in stretches.now < 2 ^ 32 }
-        ensures { IfOk result (λ layout. layout ≡ stretches.now) }
+        requires empty { room.items ≡ [] }
+        requires room { length stretches.now ≤ vec_capacity room }
+        ensures { result ≡ stretches.now }
     {
-        let mut parts = Vec::with_capacity(alloc, stretches.len())?;
+        let mut parts = room;
         let mut start = 0;
         let mut first = 0;
         let mut i = 0;
@@ -156,11 +181,66 @@ impl Layout {
             first = after;
             i += 1;
         }
-        Ok(Layout {
+        Layout {
             parts: Parts::Many(parts),
             length: start,
             count: first,
-        })
+        }
+    }
+
+    /// These stretches, one after the other: at most 64 of them, of fewer than 2^32 bytes in all. `AllocError`: there is a stretch, and
+    /// there was no memory for the list.
+    ///
+    /// A message of 1,500 bytes: 20 of them begin at byte 64 of the buffer, the others at byte 4,099:
+    ///
+    /// ```
+    /// use std::alloc::{AllocError, Global};
+    /// use td_stream::{Layout, Stretch};
+    ///
+    /// fn in_two(alloc: Global) -> Result<Layout, AllocError> {
+    ///     let head = Stretch { place: 64, size: 20 };
+    ///     let body = Stretch { place: 4099, size: 1480 };
+    ///     Layout::of(alloc, &[head, body])
+    /// }
+    /// ```
+    pub fn of(alloc: Global, stretches: &[Stretch]) -> Result<Layout, AllocError>
+        requires few { length stretches.now ≤ MOST_STRETCHES }
+        requires short { length_in stretches.now < 2 ^ 32 }
+        ensures ok { IfOk result (λ layout. layout ≡ stretches.now) }
+        ensures memory { OnErr result (0 < length stretches.now) }
+    {
+        let room = Vec::with_capacity(alloc, stretches.len())?;
+        Ok(Layout::laid(room, stretches))
+    }
+
+    // The list of a layout, emptied.
+    fn emptied(self, alloc: Global) -> Vec<Part>
+        ensures { result.items ≡ [] }
+    {
+        let Layout {
+            parts,
+            length: _,
+            count: _,
+        } = self;
+        match parts {
+            Parts::One(_) => Vec::new(alloc),
+            Parts::Many(mut list) => {
+                list.clear();
+                list
+            }
+        }
+    }
+
+    /// These stretches in place of a layout's own, one after the other: at most 1,024 of them, of fewer than 2^32 bytes in all. The list is
+    /// the layout's, which takes memory only if they are more than it had room for. `AllocError`: there was no memory for them.
+    pub fn relaid(self, alloc: Global, stretches: &[Stretch]) -> Result<Layout, AllocError>
+        requires few { length stretches.now ≤ MOST_PIECES }
+        requires short { length_in stretches.now < 2 ^ 32 }
+        ensures { IfOk result (λ layout. layout ≡ stretches.now) }
+    {
+        let mut room = self.emptied(alloc);
+        room.try_reserve(stretches.len())?;
+        Ok(Layout::laid(room, stretches))
     }
 
     /// How many bytes the message has.
@@ -247,13 +327,14 @@ impl Layout {
         (k as u32, part.word + (number - part.first))
     }
 
-    /// The same stretches. `AllocError`: there was no memory for the list.
+    /// The same stretches. `AllocError`: there is a stretch, and there was no memory for the list.
     pub fn copied(&self, alloc: Global) -> Result<Layout, AllocError>
-        ensures { IfOk result (λ layout. layout ≡ self.now) }
+        ensures ok { IfOk result (λ layout. layout ≡ self.now) }
+        ensures memory { OnErr result (0 < length self.now) }
     {
         let parts = match &self.parts {
             Parts::One(part) => Parts::One(*part),
-            Parts::Many(parts) => Parts::Many(Vec::from_slice(alloc, parts.as_slice())?),
+            Parts::Many(parts) => Parts::Many(copied_parts(alloc, parts.as_slice())?),
         };
         Ok(Layout {
             parts,
@@ -319,6 +400,17 @@ impl Layout {
         }
         at
     }
+}
+
+// The same parts. `AllocError`: there is a part, and there was no memory for the list.
+fn copied_parts(alloc: Global, parts: &[Part]) -> Result<Vec<Part>, AllocError>
+    ensures ok { IfOk result (λ copied. copied.items ≡ parts.now) }
+    ensures memory { OnErr result (0 < length parts.now) }
+{
+    if parts.is_empty() {
+        return Ok(Vec::new(alloc));
+    }
+    Ok(Vec::from_slice(alloc, parts)?)
 }
 
 /// How many words may be loaded: the message's, or without a layout all of so many.

@@ -12,20 +12,22 @@ use Rattle.td_stream.specs.Loads.{IsFetchedOnce}
 use Rattle.td_ir.specs.declared.tables.Parts.{Parts}
 use Rattle.td_lower_means.specs.CodeRun.{IsCodeOf}
 use Rattle.td_vm.specs.Need.{most_need, level}
+use Rattle.td_vm.specs.Frames.{FrameView, IsArmed}
 use Rattle.td_words.specs.declared.view.Access.{Access}
 use Rattle.td_words.specs.Views.{seat_view}
-use Rattle.td_words.specs.Seats.{SeatState, seat_state}
+use Rattle.td_words.specs.Seats.{BufferState, SeatState, seat_state}
 use Rattle.td_posts.specs.declared.job.HostJob.{HostJob}
 use Rattle.td_posts.specs.declared.ring.RingJob.{RingJob}
 use Rattle.td_posts.specs.declared.reply.Reply.{Reply}
 use Rattle.td_posts.specs.Posts.{IsVersion, zeros, version_in, outcome_in}
+use Rattle.td_posts.specs.declared.limits.TheConstants.{MOST_ENTRIES}
 use Rattle.td_live.specs.Live.{steps_for}
 use Rattle.td_descr.specs.declared.next.Next.{Next}
 use Rattle.td_descr.specs.declared.next.Next.TheVariants.{Idle, Overrun, Bad, Message}
 use Rattle.td_descr.specs.declared.next.Standing.{Standing}
 use Rattle.td_descr.specs.declared.next.Standing.TheVariants.{Nothing, Lost, Waiting}
 use Rattle.td_descr.specs.Words.{load_of, raised}
-use Rattle.td_descr.specs.Ring.{standing, ring_words, desc_word, desc_bytes, answer, IsDescribed, IsDescSoundOn}
+use Rattle.td_descr.specs.Ring.{ReaderView, standing, ring_words, desc_word, desc_bytes, answer, IsDescribed, IsDescSoundOn}
 use Rattle.td_takes.specs.declared.take.Take.{Take}
 use Rattle.td_takes.specs.declared.take.TakeRoom.{TakeRoom}
 use Rattle.td_takes.specs.Codes.{IsMeantUnder}
@@ -171,6 +173,17 @@ AreRooms job frames desc_frames most [] = Unit {0}
 AreRooms job frames desc_frames most (r ∷ rs) = IsRoom job frames desc_frames most r × AreRooms job frames desc_frames most rs
 
 -- ---- a ring's actor
+-- it may look at this ring of the buffer: its seat is at the buffer, its reader has the ring's entries and greatest message, the ring and
+-- whatever lies in the reader's room are in the buffer, and its frame is armed for the code that validates the messages
+pub record MayLook (shared : BufferState) (c : Parts) (ring : RingJob) (descr : ReaderView) (seat : SeatState) (frame : FrameView) : Type 0 where
+  pub own : seat.table ≡ shared.table
+  pub entries : descr.entries ≡ ring.entries
+  pub most : descr.most ≡ ring.most
+  pub few : ring.entries ≤ MOST_ENTRIES
+  pub inside : ring.base + ring_words ring.entries ≤ shared.count
+  pub bytes : descr.room ≤ 8 * shared.count
+  pub armed : IsArmed c frame
+
 -- all takes of ring k were made, by a reader that took nothing before, and the seat made their steps and no other
 pub record RanRing (job : HostJob) (c : Parts) (room : ℕ) (ring : RingJob) (k : ℕ) (seat seat' : SeatState) (takes : List Take) : Type 0 where
   pub as_many : length takes ≡ ring.takes

@@ -3,10 +3,9 @@
 ghost use Rattle.std.specs.Prelude.{◌≡◌, ℕ, ◌+◌, ◌*◌, ◌≤◌, ◌<◌, ◌^◌, [], length, vec_capacity, IfSome};
 ghost use Rattle.td_core.specs.declared.module.Module.{Module};
 ghost use Rattle.td_vm.specs.Frames.{IsArmed};
-ghost use Rattle.td_posts.specs.declared.limits.TheConstants.{MOST_ENTRIES as most_entries};
-ghost use Rattle.td_descr.specs.Ring.{Answers, LiesWithin, ring_words, standing};
+ghost use Rattle.td_descr.specs.Ring.{Answers, LiesWithin, standing};
 ghost use Rattle.td_takes.specs.Codes.{IsMessageCode};
-ghost use Rattle.td_takes.specs.Takes.{Describes, IsMessageRoom, IsRoom, AreRooms, IsTake, RanRing, HasMessage, HasNumber, IsDescRoom, IfJudged, HasDone, frames_of, message_steps, take_steps, taken_after};
+ghost use Rattle.td_takes.specs.Takes.{Describes, MayLook, IsMessageRoom, IsRoom, AreRooms, IsTake, RanRing, HasMessage, HasNumber, IsDescRoom, IfJudged, HasDone, frames_of, message_steps, take_steps, taken_after};
 ghost use Rattle.td_takes.specs.Kept.{IsKept};
 ghost use Rattle.td_takes.specs.Memory.{KeepsMemory, KeepsRoom, KeepRooms};
 
@@ -89,17 +88,10 @@ pub fn take_once(
     frame: &mut Frame,
     room: TakeRoom,
 ) -> Take
-    requires own { seat.old.table ≡ validator.now.shared.now.table }
-    requires entries { descr.old.entries ≡ ring.now.job.now.entries }
-    requires most { descr.old.most ≡ ring.now.job.now.most }
-    requires few { ring.now.job.now.entries ≤ most_entries }
-    requires inside { ring.now.job.now.base + ring_words ring.now.job.now.entries ≤ validator.now.shared.now.count }
-    requires bytes { descr.old.room ≤ 8 * validator.now.shared.now.count }
+    requires ready { MayLook validator.now.shared.now validator.now.code.now ring.now.job.now descr.old seat.old frame.old }
     requires code { IsMessageCode validator.now.code.now validator.now.job.now }
-    requires armed { IsArmed validator.now.code.now frame.old }
     requires rooms { IsRoom validator.now.job.now (frames_of validator.now.code.now) (frames_of descr.old.code) ring.now.job.now.most room }
-    ensures table { seat.new.table ≡ seat.old.table }
-    ensures armed { IsArmed validator.now.code.now frame.new }
+    ensures ready { MayLook validator.now.shared.now validator.now.code.now ring.now.job.now descr.new seat.new frame.new }
     ensures ring { result.ring ≡ ring.now.number }
     ensures number { result.number ≡ number }
     ensures descr { descr.new ≡ record descr.old { taken = taken_after descr.old.taken result.next; frame = descr.new.frame; last = descr.new.last } }
@@ -142,19 +134,14 @@ pub fn run_ring(
     rooms: &mut VecDeque<TakeRoom>,
     takes: &mut Vec<Take>,
 )
-    requires own { seat.old.table ≡ validator.now.shared.now.table }
-    requires entries { descr.old.entries ≡ ring.now.job.now.entries }
-    requires most { descr.old.most ≡ ring.now.job.now.most }
-    requires few { ring.now.job.now.entries ≤ most_entries }
-    requires inside { ring.now.job.now.base + ring_words ring.now.job.now.entries ≤ validator.now.shared.now.count }
-    requires bytes { descr.old.room ≤ 8 * validator.now.shared.now.count }
+    requires ready { MayLook validator.now.shared.now validator.now.code.now ring.now.job.now descr.old seat.old frame.old }
     requires none { descr.old.taken ≡ 0 }
     requires code { IsMessageCode validator.now.code.now validator.now.job.now }
-    requires armed { IsArmed validator.now.code.now frame.old }
     requires rooms { AreRooms validator.now.job.now (frames_of validator.now.code.now) (frames_of descr.old.code) ring.now.job.now.most rooms.old.items }
     requires as_many { length rooms.old.items ≡ ring.now.job.now.takes }
     requires empty { takes.old.items ≡ [] }
     requires space { ring.now.job.now.takes ≤ vec_capacity takes.old }
+    ensures ready { MayLook validator.now.shared.now validator.now.code.now ring.now.job.now descr.new seat.new frame.new }
     ensures ran { RanRing validator.now.job.now descr.old.code descr.old.room ring.now.job.now ring.now.number seat.old seat.new takes.new.items }
     ensures memory { KeepRooms rooms.old.items takes.new.items }
 {

@@ -1,11 +1,10 @@
-//! Sources and sinks of bytes.
+//! Sources and sinks over streams, and a text that is read whole with ample memory. What a source or sink in memory answers, its
+//! clauses say.
 
 use std::io;
-use std::process::Abort;
 use std::test::*;
 use td_io::{
-    Failed, MemorySink, MemorySource, QuietSink, QuietSource, ReadError, ReaderSource, Sink,
-    Source, WriteFault, WriterSink, read_whole, write_all,
+    QuietSink, QuietSource, ReadError, ReaderSource, WriteFault, WriterSink, read_whole, write_all,
 };
 
 /// Gives one byte at a read, so many times, and fails at a read past that where it is `broken`.
@@ -50,82 +49,6 @@ impl io::Write for Clogging {
 }
 
 #[test]
-fn reads_fail_at_listed_calls(rt: HostRuntime) -> Result<(), Fail> {
-    let bytes = b"abcde".to_vec(rt.alloc())?;
-    let fails = [2, 4].to_vec(rt.alloc())?;
-    let mut source = MemorySource::over(bytes, fails);
-    let mut buf = [0u8; 2];
-    let found = [
-        source.read(&mut buf),
-        source.read(&mut buf),
-        source.read(&mut buf),
-        source.read(&mut buf),
-        source.read(&mut buf),
-        source.read(&mut buf),
-    ];
-    let left = source.left().len();
-    drop(source);
-    assert_eq!(rt;
-        found,
-        [Ok(2), Err(Failed), Ok(2), Err(Failed), Ok(1), Ok(0)]
-    );
-    assert_eq!(rt; (buf[0], left), (b'e', 0));
-    Ok(())
-}
-
-#[test]
-fn writes_fail_at_listed_calls_and_without_room(rt: HostRuntime) -> Result<(), Fail> {
-    let mut sink = MemorySink::with_room(rt.alloc(), 4, [2].to_vec(rt.alloc())?)?;
-    let found = [
-        sink.write(b"ab"),
-        sink.write(b"cd"),
-        sink.write(b"cde"),
-        sink.write(b"e"),
-        sink.write(b""),
-    ];
-    let same = sink.written() == b"abcd".as_slice();
-    drop(sink);
-    assert_eq!(rt; found, [Ok(2), Err(Failed), Ok(2), Err(Failed), Ok(0)]);
-    assert!(rt; same);
-    Ok(())
-}
-
-// What is read of `abc` with this limit, where the read of this number fails; none fails where it is 0.
-fn check_whole(
-    rt: &(impl AllocGlobal + Abort),
-    fail: u64,
-    limit: usize,
-    want: Result<&[u8], ReadError>,
-) -> Result<(), Fail> {
-    let bytes = b"abc".to_vec(rt.alloc())?;
-    let fails = [fail].to_vec(rt.alloc())?;
-    let mut source = MemorySource::over(bytes, fails);
-    let read = read_whole(rt.alloc(), &mut source, limit);
-    drop(source);
-    assert_eq!(rt;
-        read.as_ref().map(|v| v.as_slice()).map_err(|e| *e),
-        want,
-        "fail {fail}, limit {limit}"
-    );
-    Ok(())
-}
-
-#[test]
-fn whole_sources_are_read_up_to_the_limit(rt: HostRuntime) -> Result<(), Fail> {
-    for (fail, limit, want) in [
-        (0, 3, Ok(b"abc".as_slice())),
-        (0, 2, Err(ReadError::TooLong)),
-        (1, 3, Err(ReadError::Fault)),
-        (2, 3, Err(ReadError::Fault)),
-        (2, 2, Err(ReadError::TooLong)),
-        (3, 3, Ok(b"abc".as_slice())),
-    ] {
-        check_whole(&rt, fail, limit, want)?;
-    }
-    Ok(())
-}
-
-#[test]
 fn a_quiet_source_is_read_whole(rt: HostRuntime) -> Result<(), Fail> {
     let mut quiet = QuietSource::over(b"abc".to_vec(rt.alloc())?);
     let read = read_whole(rt.alloc(), &mut quiet, 3)?;
@@ -148,30 +71,6 @@ fn streams_are_read_byte_by_byte(rt: HostRuntime) -> Result<(), Fail> {
         assert_eq!(rt; read.map(|v| v.len()), want, "{left} bytes, limit {limit}");
     }
     Ok(())
-}
-
-// What is written of `abc` to a sink with room for so many bytes, whose write of this number fails; none where it is 0.
-fn check_written(
-    rt: &(impl AllocGlobal + Abort),
-    room: usize,
-    fail: u64,
-    want: Result<(), WriteFault>,
-    written: &[u8],
-) -> Result<(), Fail> {
-    let fails = [fail].to_vec(rt.alloc())?;
-    let mut sink = MemorySink::with_room(rt.alloc(), room, fails)?;
-    let found = write_all(&mut sink, b"abc");
-    let same = sink.written() == written;
-    drop(sink);
-    assert_eq!(rt; (found, same), (want, true), "room {room}, fail {fail}");
-    Ok(())
-}
-
-#[test]
-fn texts_are_written_until_a_write_fails(rt: HostRuntime) -> Result<(), Fail> {
-    check_written(&rt, 3, 0, Ok(()), b"abc")?;
-    check_written(&rt, 2, 0, Err(WriteFault), b"ab")?;
-    check_written(&rt, 3, 1, Err(WriteFault), b"")
 }
 
 #[test]

@@ -1,14 +1,9 @@
 -- Texts and their first breaches: actions.
 use Rattle.std.specs.Prelude.{true, false, List, [], ◌∷◌, Some, None}
-use Rattle.td_num.specs.declared.number.Width.TheVariants.{One, Two}
-use Rattle.td_num.specs.declared.number.ByteOrder.TheVariants.{LittleEndian}
-use Rattle.td_ast.specs.declared.token.Base.TheVariants.{Decimal}
+use Rattle.td_test_rows.specs.Imports.{One, Two, LittleEndian, Decimal, Value, FieldPtr, Act, Check, OnSuccess, Done, Struct, Casetype, Output, Unknown, Twice, WrongArgs, Mismatch, Narrowing, BadAction}
 use Rattle.td_ast.specs.declared.expressions.BinaryOperator.TheVariants as operator
 use Rattle.td_ast.specs.declared.expressions.SizeofOperand.TheVariants as operand
 use Rattle.td_ast.specs.Trees as tree
-use Rattle.td_ast.specs.declared.actions.Assigned.TheVariants.{Value, FieldPtr}
-use Rattle.td_ast.specs.declared.actions.ActionKind.TheVariants.{Act, Check, OnSuccess}
-use Rattle.td_ast.specs.declared.actions.ActionTree.TheVariants.{Done}
 use Rattle.td_ast.specs.Statements.{Store, StoreField, Var, If, IfElse, Return, Abort, block_of}
 use Rattle.td_ast.specs.declared.names.ConstTree.TheVariants as constant
 use Rattle.td_ast.specs.declared.names.PlainTree.TheVariants as plain
@@ -17,8 +12,6 @@ use Rattle.td_ast.specs.declared.parameters.ParamTree.TheVariants as param
 use Rattle.td_ast.specs.declared.fields.TypeKind.TheVariants as type
 use Rattle.td_ast.specs.declared.fields.ExtentTree.TheVariants as extent
 use Rattle.td_ast.specs.declared.definitions.SlotKind.TheVariants as slot
-use Rattle.td_ast.specs.declared.definitions.Def.TheVariants.{Struct, Casetype, Output}
-use Rattle.td_elab_rules.specs.declared.breach.Rule.TheVariants.{Unknown, Twice, WrongArgs, Mismatch, Narrowing, BadAction}
 use Rattle.td_test_rows.specs.Rows.{Row, sp, nm, number}
 
 abbrev pub actions : List Row

@@ -1,8 +1,6 @@
 -- Texts and their first breaches: casetypes.
 use Rattle.std.specs.Prelude.{false, List, [], ◌∷◌, Some, None}
-use Rattle.td_num.specs.declared.number.Width.TheVariants.{One}
-use Rattle.td_num.specs.declared.number.ByteOrder.TheVariants.{LittleEndian}
-use Rattle.td_ast.specs.declared.token.Base.TheVariants.{Decimal, Hexadecimal}
+use Rattle.td_test_rows.specs.Imports.{One, LittleEndian, Decimal, Hexadecimal, Casetype, Unknown, Twice, Narrowing, NotConstant}
 use Rattle.td_ast.specs.declared.expressions.BinaryOperator.TheVariants as operator
 use Rattle.td_ast.specs.declared.expressions.SizeofOperand.TheVariants as operand
 use Rattle.td_ast.specs.Trees as tree
@@ -10,8 +8,6 @@ use Rattle.td_ast.specs.declared.names.ConstTree.TheVariants as constant
 use Rattle.td_ast.specs.declared.names.PlainTree.TheVariants as plain
 use Rattle.td_ast.specs.declared.parameters.ParamTree.TheVariants as param
 use Rattle.td_ast.specs.declared.fields.TypeKind.TheVariants as type
-use Rattle.td_ast.specs.declared.definitions.Def.TheVariants.{Casetype}
-use Rattle.td_elab_rules.specs.declared.breach.Rule.TheVariants.{Unknown, Twice, Narrowing, NotConstant}
 use Rattle.td_test_rows.specs.Rows.{Row, sp, nm, number}
 
 abbrev pub casetypes : List Row

@@ -1,11 +1,7 @@
 -- Texts and their first breaches: copy buffers and copied fields.
 use Rattle.std.specs.Prelude.{List, [], ◌∷◌, Some, None, codes}
-use Rattle.td_num.specs.declared.number.Width.TheVariants.{One, Two}
-use Rattle.td_num.specs.declared.number.ByteOrder.TheVariants.{LittleEndian}
-use Rattle.td_ast.specs.declared.token.Base.TheVariants.{Decimal}
+use Rattle.td_test_rows.specs.Imports.{One, Two, LittleEndian, Decimal, Value, Act, Unknown, Twice, WrongArgs, Mismatch, Narrowing, NotConstant, BadAction}
 use Rattle.td_ast.specs.declared.expressions.BinaryOperator.TheVariants as operator
-use Rattle.td_ast.specs.declared.actions.Assigned.TheVariants.{Value}
-use Rattle.td_ast.specs.declared.actions.ActionKind.TheVariants.{Act}
 use Rattle.td_ast.specs.Statements.{Store}
 use Rattle.td_ast.specs.declared.names.ConstTree.TheVariants as constant
 use Rattle.td_ast.specs.declared.names.PlainTree.TheVariants as plain
@@ -13,7 +9,6 @@ use Rattle.td_ast.specs.declared.parameters.TargetTree.TheVariants as target
 use Rattle.td_ast.specs.declared.parameters.ParamTree.TheVariants as param
 use Rattle.td_ast.specs.declared.fields.TypeKind.TheVariants as type
 use Rattle.td_ast.specs.declared.fields.ExtentTree.TheVariants as extent
-use Rattle.td_elab_rules.specs.declared.breach.Rule.TheVariants.{Unknown, Twice, WrongArgs, Mismatch, Narrowing, NotConstant, BadAction}
 use Rattle.td_test_rows.specs.Rows.{Row, sp, nm}
 use Rattle.td_test_rows.specs.Findings.{RoomRow}
 use Rattle.td_test_rows.specs.Makers.{literal, number_at, written, named, binary, type_at, little, big, action, copy, whole_field, alias, struct}

@@ -1,19 +1,12 @@
 -- Texts and their first breaches: enums.
 use Rattle.std.specs.Prelude.{false, List, [], ◌∷◌, Some, None, codes}
-use Rattle.td_num.specs.declared.number.Width.TheVariants.{One, Two}
-use Rattle.td_num.specs.declared.number.ByteOrder.TheVariants.{LittleEndian}
-use Rattle.td_ast.specs.declared.token.Base.TheVariants.{Decimal}
+use Rattle.td_test_rows.specs.Imports.{One, Two, LittleEndian, Decimal, Value, Act, Done, Enum, Struct, Twice, WrongArgs, Narrowing}
 use Rattle.td_ast.specs.Trees as tree
-use Rattle.td_ast.specs.declared.actions.Assigned.TheVariants.{Value}
-use Rattle.td_ast.specs.declared.actions.ActionKind.TheVariants.{Act}
-use Rattle.td_ast.specs.declared.actions.ActionTree.TheVariants.{Done}
 use Rattle.td_ast.specs.Statements.{Store}
 use Rattle.td_ast.specs.declared.names.ConstTree.TheVariants as constant
 use Rattle.td_ast.specs.declared.parameters.TargetTree.TheVariants as target
 use Rattle.td_ast.specs.declared.parameters.ParamTree.TheVariants as param
 use Rattle.td_ast.specs.declared.fields.TypeKind.TheVariants as type
-use Rattle.td_ast.specs.declared.definitions.Def.TheVariants.{Enum, Struct}
-use Rattle.td_elab_rules.specs.declared.breach.Rule.TheVariants.{Twice, WrongArgs, Narrowing}
 use Rattle.td_test_rows.specs.Rows.{Row, sp, nm, number}
 
 abbrev pub enums : List Row

@@ -1,13 +1,9 @@
 -- Texts and their first breaches: expressions.
 use Rattle.std.specs.Prelude.{true, false, List, [], ◌∷◌, Some, None}
-use Rattle.td_num.specs.declared.number.Width.TheVariants.{One}
-use Rattle.td_num.specs.declared.number.ByteOrder.TheVariants.{LittleEndian}
-use Rattle.td_ast.specs.declared.token.Base.TheVariants.{Decimal}
+use Rattle.td_test_rows.specs.Imports.{One, LittleEndian, Decimal, Struct, Unknown, Mismatch, BadAction}
 use Rattle.td_ast.specs.declared.expressions.BinaryOperator.TheVariants as operator
 use Rattle.td_ast.specs.Trees as tree
 use Rattle.td_ast.specs.declared.fields.TypeKind.TheVariants as type
-use Rattle.td_ast.specs.declared.definitions.Def.TheVariants.{Struct}
-use Rattle.td_elab_rules.specs.declared.breach.Rule.TheVariants.{Unknown, Mismatch, BadAction}
 use Rattle.td_test_rows.specs.Rows.{Row, sp, nm, number}
 
 abbrev pub expressions : List Row

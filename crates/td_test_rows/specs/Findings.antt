@@ -1,7 +1,6 @@
 -- Rows on what the later rules find in the module of a text, on limits, and on how large definitions are.
 use Rattle.std.specs.Prelude.{◌≡◌, ℕ, List, [], ◌∷◌, map, Option, Some, None}
-use Rattle.td_ast.specs.declared.definitions.Def.{Def}
-use Rattle.td_ast.specs.declared.definitions.ModuleTree.{ModuleTree}
+use Rattle.td_test_rows.specs.Imports.{Def, ModuleTree}
 use Rattle.td_core.specs.declared.expressions.Binary.{Binary}
 use Rattle.td_expr.specs.declared.safety.Unsafe.{Unsafe}
 use Rattle.td_expr.specs.declared.safety.Unsafe.TheVariants.{Operator, Room}

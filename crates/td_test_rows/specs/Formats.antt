@@ -1,13 +1,8 @@
 -- Texts and their first breaches: formats.
 use Rattle.std.specs.Prelude.{true, false, List, [], ◌∷◌, Some, None, codes}
-use Rattle.td_num.specs.declared.number.Width.TheVariants.{One, Two, Four}
-use Rattle.td_num.specs.declared.number.ByteOrder.TheVariants.{LittleEndian, BigEndian}
-use Rattle.td_ast.specs.declared.token.Base.TheVariants.{Decimal, Hexadecimal}
+use Rattle.td_test_rows.specs.Imports.{One, Two, Four, LittleEndian, BigEndian, Decimal, Hexadecimal, Value, FieldPtr, Act, Done, Define, Struct, Casetype, Output}
 use Rattle.td_ast.specs.declared.expressions.BinaryOperator.TheVariants as operator
 use Rattle.td_ast.specs.Trees as tree
-use Rattle.td_ast.specs.declared.actions.Assigned.TheVariants.{Value, FieldPtr}
-use Rattle.td_ast.specs.declared.actions.ActionKind.TheVariants.{Act}
-use Rattle.td_ast.specs.declared.actions.ActionTree.TheVariants.{Done}
 use Rattle.td_ast.specs.Statements.{StoreField}
 use Rattle.td_ast.specs.declared.names.ConstTree.TheVariants as constant
 use Rattle.td_ast.specs.declared.names.PlainTree.TheVariants as plain
@@ -16,7 +11,6 @@ use Rattle.td_ast.specs.declared.parameters.ParamTree.TheVariants as param
 use Rattle.td_ast.specs.declared.fields.TypeKind.TheVariants as type
 use Rattle.td_ast.specs.declared.fields.ExtentTree.TheVariants as extent
 use Rattle.td_ast.specs.declared.definitions.SlotKind.TheVariants as slot
-use Rattle.td_ast.specs.declared.definitions.Def.TheVariants.{Define, Struct, Casetype, Output}
 use Rattle.td_test_rows.specs.Rows.{Row, sp, nm, number}
 
 abbrev pub formats : List Row

@@ -1,8 +1,6 @@
 -- Texts and the first refusal of a kind.
 use Rattle.std.specs.Prelude.{List, [], ◌∷◌, Some, None, codes}
-use Rattle.td_num.specs.declared.number.Width.TheVariants.{One}
-use Rattle.td_num.specs.declared.number.ByteOrder.TheVariants.{LittleEndian}
-use Rattle.td_ast.specs.declared.token.Base.TheVariants.{Decimal}
+use Rattle.td_test_rows.specs.Imports.{One, LittleEndian, Decimal}
 use Rattle.td_ast.specs.declared.expressions.BinaryOperator.TheVariants as operator
 use Rattle.td_ast.specs.declared.names.ConstTree.TheVariants as constant
 use Rattle.td_ast.specs.declared.names.PlainTree.TheVariants as plain

@@ -1,8 +1,6 @@
 -- Texts and the first limit that is passed.
 use Rattle.std.specs.Prelude.{List, [], ◌∷◌, Some, None, replicate}
-use Rattle.td_num.specs.declared.number.Width.TheVariants.{One}
-use Rattle.td_num.specs.declared.number.ByteOrder.TheVariants.{LittleEndian}
-use Rattle.td_ast.specs.declared.token.Base.TheVariants.{Decimal}
+use Rattle.td_test_rows.specs.Imports.{One, LittleEndian, Decimal}
 use Rattle.td_ast.specs.declared.names.ConstTree.TheVariants as constant
 use Rattle.td_ast.specs.declared.names.PlainTree.TheVariants as plain
 use Rattle.td_ast.specs.declared.parameters.ParamTree.TheVariants as param

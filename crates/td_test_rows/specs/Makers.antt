@@ -1,11 +1,7 @@
 -- Short ways to write trees: each takes the parts in the order of the text, and places as `from` and `to`.
 use Rattle.std.specs.Prelude.{ℕ, Bool, true, false, List, Option, Some, None}
-use Rattle.td_num.specs.declared.number.Width.{Width}
-use Rattle.td_num.specs.declared.number.ByteOrder.{ByteOrder}
-use Rattle.td_num.specs.declared.number.ByteOrder.TheVariants.{LittleEndian, BigEndian}
+use Rattle.td_test_rows.specs.Imports.{Width, ByteOrder, LittleEndian, BigEndian, Decimal, Name, Done, Copied, Def, Define, Enum, Alias, Struct, Casetype, Output}
 use Rattle.td_ast.specs.declared.token.Base.{Base}
-use Rattle.td_ast.specs.declared.token.Base.TheVariants.{Decimal}
-use Rattle.td_ast.specs.declared.names.Name.{Name}
 use Rattle.td_ast.specs.declared.names.Literal.{Literal}
 use Rattle.td_ast.specs.declared.names.NumberTree.{NumberTree}
 use Rattle.td_ast.specs.declared.names.ConstTree.{ConstTree}
@@ -16,7 +12,6 @@ use Rattle.td_ast.specs.Trees as tree
 use Rattle.td_ast.specs.Statements.{Statement}
 use Rattle.td_ast.specs.declared.actions.ActionKind.{ActionKind}
 use Rattle.td_ast.specs.declared.actions.ActionTree.{ActionTree}
-use Rattle.td_ast.specs.declared.actions.ActionTree.TheVariants.{Done, Copied}
 use Rattle.td_ast.specs.declared.parameters.ParamTree.{ParamTree}
 use Rattle.td_ast.specs.declared.fields.TypeKind.{TypeKind}
 use Rattle.td_ast.specs.declared.fields.TypeKind.TheVariants as type
@@ -27,8 +22,6 @@ use Rattle.td_ast.specs.declared.definitions.ItemTree.{ItemTree}
 use Rattle.td_ast.specs.declared.definitions.CaseTree.{CaseTree}
 use Rattle.td_ast.specs.declared.definitions.SlotKind.{SlotKind}
 use Rattle.td_ast.specs.declared.definitions.SlotTree.{SlotTree}
-use Rattle.td_ast.specs.declared.definitions.Def.{Def}
-use Rattle.td_ast.specs.declared.definitions.Def.TheVariants.{Define, Enum, Alias, Struct, Casetype, Output}
 use Rattle.td_test_rows.specs.Rows.{sp, nm, number}
 
 -- Numbers

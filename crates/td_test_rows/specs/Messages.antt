@@ -1,12 +1,8 @@
 -- Rows on messages: what the module of a text says of one, with names as they are written.
 use Rattle.std.specs.Prelude.{◌≡◌, ℕ, List, [], map, codes, Some, None, slice_get}
-use Rattle.td_ast.specs.declared.definitions.Def.{Def}
+use Rattle.td_test_rows.specs.Imports.{Def, Module, Reason, Field, Where, Switch, TraceFrame}
 use Rattle.td_core.specs.declared.module.NameId.{NameId}
-use Rattle.td_core.specs.declared.module.Module.{Module}
-use Rattle.td_core.specs.declared.outcome.Reason.{Reason}
 use Rattle.td_core.specs.declared.outcome.Spot.{Spot}
-use Rattle.td_core.specs.declared.outcome.Spot.TheVariants.{Field, Where, Switch}
-use Rattle.td_core.specs.declared.outcome.TraceFrame.{TraceFrame}
 use Rattle.td_core.specs.Outcome.{Ending, Accepted, Rejected, Behavior}
 use Rattle.td_meaning.specs.Meaning.{meaning}
 use Rattle.td_elab_rules.specs.Modules.{module_of}

@@ -1,13 +1,9 @@
 -- Texts and their first breaches: names.
 use Rattle.std.specs.Prelude.{false, List, [], ◌∷◌, Some, None, codes}
-use Rattle.td_num.specs.declared.number.Width.TheVariants.{One}
-use Rattle.td_num.specs.declared.number.ByteOrder.TheVariants.{LittleEndian}
-use Rattle.td_ast.specs.declared.token.Base.TheVariants.{Decimal}
+use Rattle.td_test_rows.specs.Imports.{One, LittleEndian, Decimal, Define, Alias, Struct, Twice, WrongArgs, Mismatch}
 use Rattle.td_ast.specs.Trees as tree
 use Rattle.td_ast.specs.declared.names.PlainTree.TheVariants as plain
 use Rattle.td_ast.specs.declared.fields.TypeKind.TheVariants as type
-use Rattle.td_ast.specs.declared.definitions.Def.TheVariants.{Define, Alias, Struct}
-use Rattle.td_elab_rules.specs.declared.breach.Rule.TheVariants.{Twice, WrongArgs, Mismatch}
 use Rattle.td_test_rows.specs.Rows.{Row, sp, nm, number}
 
 abbrev pub names : List Row

@@ -1,8 +1,6 @@
 -- Texts and their first breaches: parameters.
 use Rattle.std.specs.Prelude.{false, List, [], ◌∷◌, Some, None, codes}
-use Rattle.td_num.specs.declared.number.Width.TheVariants.{One, Two}
-use Rattle.td_num.specs.declared.number.ByteOrder.TheVariants.{LittleEndian, BigEndian}
-use Rattle.td_ast.specs.declared.token.Base.TheVariants.{Decimal}
+use Rattle.td_test_rows.specs.Imports.{One, Two, LittleEndian, BigEndian, Decimal, Define, Alias, Struct, Output, Unknown, Twice, WrongArgs, Mismatch}
 use Rattle.td_ast.specs.declared.expressions.BinaryOperator.TheVariants as operator
 use Rattle.td_ast.specs.Trees as tree
 use Rattle.td_ast.specs.declared.names.PlainTree.TheVariants as plain
@@ -10,8 +8,6 @@ use Rattle.td_ast.specs.declared.parameters.TargetTree.TheVariants as target
 use Rattle.td_ast.specs.declared.parameters.ParamTree.TheVariants as param
 use Rattle.td_ast.specs.declared.fields.TypeKind.TheVariants as type
 use Rattle.td_ast.specs.declared.definitions.SlotKind.TheVariants as slot
-use Rattle.td_ast.specs.declared.definitions.Def.TheVariants.{Define, Alias, Struct, Output}
-use Rattle.td_elab_rules.specs.declared.breach.Rule.TheVariants.{Unknown, Twice, WrongArgs, Mismatch}
 use Rattle.td_test_rows.specs.Rows.{Row, sp, nm, number}
 
 abbrev pub parameters : List Row

@@ -1,14 +1,9 @@
 -- Texts and their first breaches: where a rule might be read in two ways.
 use Rattle.std.specs.Prelude.{true, false, List, [], ◌∷◌, Some, None, codes}
-use Rattle.td_num.specs.declared.number.Width.TheVariants.{One, Two}
-use Rattle.td_num.specs.declared.number.ByteOrder.TheVariants.{LittleEndian}
-use Rattle.td_ast.specs.declared.token.Base.TheVariants.{Decimal}
-use Rattle.td_ast.specs.declared.expressions.UnaryOperator.TheVariants.{Not, Complement}
+use Rattle.td_test_rows.specs.Imports.{One, Two, LittleEndian, Decimal, Not, Complement, Value, Act, Check, Twice, NotReadable, WrongArgs, Mismatch, Narrowing, NotConstant, BadAction}
 use Rattle.td_ast.specs.declared.expressions.BinaryOperator.TheVariants as operator
 use Rattle.td_ast.specs.declared.expressions.SizeofOperand.TheVariants as operand
 use Rattle.td_ast.specs.Trees as tree
-use Rattle.td_ast.specs.declared.actions.Assigned.TheVariants.{Value}
-use Rattle.td_ast.specs.declared.actions.ActionKind.TheVariants.{Act, Check}
 use Rattle.td_ast.specs.Statements.{Store, If, Return, Abort, block_of}
 use Rattle.td_ast.specs.declared.names.ConstTree.TheVariants as constant
 use Rattle.td_ast.specs.declared.names.PlainTree.TheVariants as plain
@@ -17,7 +12,6 @@ use Rattle.td_ast.specs.declared.parameters.ParamTree.TheVariants as param
 use Rattle.td_ast.specs.declared.fields.TypeKind.TheVariants as type
 use Rattle.td_ast.specs.declared.fields.ExtentTree.TheVariants as extent
 use Rattle.td_ast.specs.declared.definitions.SlotKind.TheVariants as slot
-use Rattle.td_elab_rules.specs.declared.breach.Rule.TheVariants.{Twice, NotReadable, WrongArgs, Mismatch, Narrowing, NotConstant, BadAction}
 use Rattle.td_test_rows.specs.Rows.{Row, sp, nm}
 use Rattle.td_test_rows.specs.Makers.{literal, number_at, written, named, binary, choice, in_parens, type_at, little, big, action, whole_field, field, tested, sized, define, item, enum_of, alias, struct, case_of, casetype, slot_of, output}
 

@@ -1,11 +1,7 @@
 -- Rows: the tree of a text, and the rule that it breaks first with the place of the breach, if it breaks one.
 use Rattle.std.specs.Prelude.{◌≡◌, ℕ, List, Option, Some, None, map, codes}
-use Rattle.td_num.specs.declared.number.Width.{Width}
-use Rattle.td_num.specs.declared.number.ByteOrder.{ByteOrder}
+use Rattle.td_test_rows.specs.Imports.{Width, ByteOrder, Span, Name, Def}
 use Rattle.td_num.specs.declared.number.NumberType.{NumberType}
-use Rattle.td_ast.specs.declared.token.Span.{Span}
-use Rattle.td_ast.specs.declared.names.Name.{Name}
-use Rattle.td_ast.specs.declared.definitions.Def.{Def}
 use Rattle.td_elab_rules.specs.declared.breach.Rule.{Rule}
 use Rattle.td_elab_rules.specs.declared.breach.Breach.{Breach}
 use Rattle.td_elab_rules.specs.Breach.{first_of}

@@ -1,8 +1,6 @@
 -- Texts and their first breaches: sizes.
 use Rattle.std.specs.Prelude.{true, false, List, [], ◌∷◌, Some, None, codes}
-use Rattle.td_num.specs.declared.number.Width.TheVariants.{One, Eight}
-use Rattle.td_num.specs.declared.number.ByteOrder.TheVariants.{LittleEndian, BigEndian}
-use Rattle.td_ast.specs.declared.token.Base.TheVariants.{Decimal}
+use Rattle.td_test_rows.specs.Imports.{One, Eight, LittleEndian, BigEndian, Decimal, Define, Alias, Struct, Unknown, NotReadable, Mismatch, Narrowing, NotConstant}
 use Rattle.td_ast.specs.declared.expressions.BinaryOperator.TheVariants as operator
 use Rattle.td_ast.specs.declared.expressions.SizeofOperand.TheVariants as operand
 use Rattle.td_ast.specs.Trees as tree
@@ -10,8 +8,6 @@ use Rattle.td_ast.specs.declared.names.PlainTree.TheVariants as plain
 use Rattle.td_ast.specs.declared.parameters.ParamTree.TheVariants as param
 use Rattle.td_ast.specs.declared.fields.TypeKind.TheVariants as type
 use Rattle.td_ast.specs.declared.fields.ExtentTree.TheVariants as extent
-use Rattle.td_ast.specs.declared.definitions.Def.TheVariants.{Define, Alias, Struct}
-use Rattle.td_elab_rules.specs.declared.breach.Rule.TheVariants.{Unknown, NotReadable, Mismatch, Narrowing, NotConstant}
 use Rattle.td_test_rows.specs.Rows.{Row, sp, nm, number}
 
 abbrev pub sizes : List Row

@@ -1,19 +1,15 @@
 -- Texts and messages: what the one says of the other.
 use Rattle.std.specs.Prelude.{true, List, [], ◌∷◌, Some, None, codes}
-use Rattle.td_num.specs.declared.number.Width.TheVariants.{One, Two}
-use Rattle.td_num.specs.declared.number.ByteOrder.TheVariants.{LittleEndian}
-use Rattle.td_ast.specs.declared.token.Base.TheVariants.{Decimal}
+use Rattle.td_test_rows.specs.Imports.{One, Two, LittleEndian, Decimal, Check, NotEnough, Constraint, ListSize, Padding}
 use Rattle.td_ast.specs.declared.expressions.BinaryOperator.TheVariants as operator
 use Rattle.td_ast.specs.declared.expressions.SizeofOperand.TheVariants as operand
 use Rattle.td_ast.specs.Trees as tree
-use Rattle.td_ast.specs.declared.actions.ActionKind.TheVariants.{Check}
 use Rattle.td_ast.specs.Statements.{IfElse, Return, Abort, block_of}
 use Rattle.td_ast.specs.declared.names.ConstTree.TheVariants as constant
 use Rattle.td_ast.specs.declared.names.PlainTree.TheVariants as plain
 use Rattle.td_ast.specs.declared.parameters.ParamTree.TheVariants as param
 use Rattle.td_ast.specs.declared.fields.TypeKind.TheVariants as type
 use Rattle.td_ast.specs.declared.fields.ExtentTree.TheVariants as extent
-use Rattle.td_core.specs.declared.outcome.Reason.TheVariants.{NotEnough, Constraint, ListSize, Padding}
 use Rattle.td_test_rows.specs.Rows.{sp, nm}
 use Rattle.td_test_rows.specs.Makers.{literal, number_at, written, named, binary, in_parens, type_at, little, action, whole_field, field, tested, sized, item, enum_of, alias, struct, entry_struct, struct_with}
 use Rattle.td_test_rows.specs.Messages.{MessageRow, accepts, rejects, frame}

@@ -1,10 +1,7 @@
 -- Worked texts: each tree stands for its module, and what that means on messages (the place of the end, or the reason and the
 -- frames of the failure; the cells; the places of the bytes that are read).
 use Rattle.std.specs.Prelude.{◌≡◌, ℕ, List, [], ◌∷◌}
-use Rattle.td_core.specs.declared.outcome.Reason.{Reason}
-use Rattle.td_core.specs.declared.outcome.Reason.TheVariants.{NotEnough, Constraint, Impossible, ListSize, Padding, Action}
-use Rattle.td_core.specs.declared.outcome.Spot.TheVariants.{Field, Switch}
-use Rattle.td_core.specs.declared.outcome.TraceFrame.{TraceFrame}
+use Rattle.td_test_rows.specs.Imports.{Reason, NotEnough, Constraint, Impossible, ListSize, Padding, Action, Field, Switch, TraceFrame}
 use Rattle.td_core.specs.declared.outcome.Verdict.TheVariants.{Accept, Reject}
 use Rattle.td_core.specs.Outcome.{Behavior, Rejected}
 use Rattle.td_elab_rules.specs.Modules.{module_of}

@@ -1,10 +1,8 @@
 -- The modules of the worked texts, written by hand. Names are numbered as they are seen first: parameters, fields, and then
 -- the definition's own.
 use Rattle.std.specs.Prelude.{ℕ, List, [], ◌∷◌, Some, None, codes}
-use Rattle.td_num.specs.declared.number.Width.{Width}
+use Rattle.td_test_rows.specs.Imports.{Width, LittleEndian, BigEndian, Span, Module}
 use Rattle.td_num.specs.declared.number.Width.TheVariants as width
-use Rattle.td_num.specs.declared.number.ByteOrder.TheVariants.{LittleEndian, BigEndian}
-use Rattle.td_ast.specs.declared.token.Span.{Span}
 use Rattle.td_core.specs.declared.expressions.Scalar.TheVariants.{Eight, Sixteen, ThirtyTwo, SixtyFour}
 use Rattle.td_core.specs.declared.expressions.Relation.TheVariants.{Equal, Greater, GreaterEqual, LessEqual}
 use Rattle.td_core.specs.Term.{number, name, compare, done, set, answer}
@@ -21,7 +19,6 @@ use Rattle.td_core.specs.declared.module.Field.{Field}
 use Rattle.td_core.specs.declared.module.Body.{Body}
 use Rattle.td_core.specs.declared.module.Body.TheVariants.{Struct, Casetype}
 use Rattle.td_core.specs.declared.module.TypeDef.{TypeDef}
-use Rattle.td_core.specs.declared.module.Module.{Module}
 use Rattle.td_meaning.specs.Rows.{id, part_of}
 use Rattle.td_test_rows.specs.Rows.{sp}
 

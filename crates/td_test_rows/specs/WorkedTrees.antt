@@ -1,13 +1,8 @@
 -- The trees of the worked texts.
 use Rattle.std.specs.Prelude.{true, false, [], ◌∷◌, Some, None, codes}
-use Rattle.td_num.specs.declared.number.Width.TheVariants.{One, Two, Four, Eight}
-use Rattle.td_num.specs.declared.number.ByteOrder.TheVariants.{LittleEndian, BigEndian}
-use Rattle.td_ast.specs.declared.token.Base.TheVariants.{Decimal, Hexadecimal}
+use Rattle.td_test_rows.specs.Imports.{One, Two, Four, Eight, LittleEndian, BigEndian, Decimal, Hexadecimal, Value, Act, Check, Done, Enum, Struct, Casetype, ModuleTree}
 use Rattle.td_ast.specs.declared.expressions.BinaryOperator.TheVariants as operator
 use Rattle.td_ast.specs.Trees as tree
-use Rattle.td_ast.specs.declared.actions.Assigned.TheVariants.{Value}
-use Rattle.td_ast.specs.declared.actions.ActionKind.TheVariants.{Act, Check}
-use Rattle.td_ast.specs.declared.actions.ActionTree.TheVariants.{Done}
 use Rattle.td_ast.specs.Statements.{Store, Return}
 use Rattle.td_ast.specs.declared.names.ConstTree.TheVariants as constant
 use Rattle.td_ast.specs.declared.names.PlainTree.TheVariants as plain
@@ -15,8 +10,6 @@ use Rattle.td_ast.specs.declared.parameters.TargetTree.TheVariants as target
 use Rattle.td_ast.specs.declared.parameters.ParamTree.TheVariants as param
 use Rattle.td_ast.specs.declared.fields.TypeKind.TheVariants as type
 use Rattle.td_ast.specs.declared.fields.ExtentTree.TheVariants as extent
-use Rattle.td_ast.specs.declared.definitions.Def.TheVariants.{Enum, Struct, Casetype}
-use Rattle.td_ast.specs.declared.definitions.ModuleTree.{ModuleTree}
 use Rattle.td_test_rows.specs.Rows.{sp, nm, number}
 use Rattle.td_test_rows.specs.Makers.{literal, number_at, written, named, binary, type_at, little, action, copy, whole_field, field, tested, struct, entry_struct}
 

@@ -23,7 +23,7 @@ use td_report_facts::laws::jobs_are_sized;
 use td_run::planned::PlannedRun;
 
 /// The most bytes of an input, as for `td`.
-const MOST_INPUT: usize = 4_194_304;
+const MOST_INPUT: usize = td_core::limits::MOST_INPUT;
 /// The most bytes of a report.
 const MOST_REPORT: usize = 1 << 20;
 /// What stands in the words that weren't loaded: the meaning must not depend on it.

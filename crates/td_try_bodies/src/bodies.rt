@@ -13,7 +13,7 @@ use td_core::module::Module;
 use td_core::outcome::{Outcome, Trace};
 use td_direct::buffers::buffers_of;
 use td_direct::call::Call;
-use td_direct::recorded::validate_recorded;
+use td_direct::recorded::validate_direct_recorded;
 use td_job::run_job::RunJob;
 use td_lower::lower::lower;
 use td_lower_means::laws::arguments_fit;
@@ -27,7 +27,11 @@ use td_stream::loads::Loads;
 use td_vm::outcome::held_by_first;
 
 /// Runs a job of a checked module by the module's code, as `td run` does. `AllocError`: there was no memory.
-pub fn run_compiled(alloc: Global, m: &Module, job: &RunJob) -> Result<PlannedRun, AllocError>
+pub(crate) fn run_compiled(
+    alloc: Global,
+    m: &Module,
+    job: &RunJob,
+) -> Result<PlannedRun, AllocError>
     requires checked { IsChecked m.now }
     requires entry { job.now.entry.number < length m.now.entries }
     requires values { HasValues m.now job.now }
@@ -84,7 +88,7 @@ fn run_on(
     let mut cells = Vec::from_slice(alloc, job.cells.as_slice())?;
     let mut copies = buffers_of(alloc, m, job.entry)?;
     let mut trace = Trace::new(alloc);
-    let verdict = validate_recorded(
+    let verdict = validate_direct_recorded(
         alloc,
         m,
         &call,
@@ -107,7 +111,7 @@ fn run_on(
 }
 
 /// Runs a job of a checked module by the validator, without code. `AllocError`: there was no memory.
-pub fn run_direct(alloc: Global, m: &Module, job: &RunJob) -> Result<PlannedRun, AllocError>
+pub(crate) fn run_direct(alloc: Global, m: &Module, job: &RunJob) -> Result<PlannedRun, AllocError>
     requires checked { IsChecked m.now }
     requires values { HasValues m.now job.now }
     requires room { HasRoom job.now }
@@ -131,7 +135,7 @@ pub fn run_direct(alloc: Global, m: &Module, job: &RunJob) -> Result<PlannedRun,
 
 /// What the module means, by the plain program, on a message that carries loads; each byte of a word that wasn't loaded is
 /// `filler`. `AllocError`: there was no memory.
-pub fn run_plain(
+pub(crate) fn run_plain(
     alloc: Global,
     m: &Module,
     job: &RunJob,

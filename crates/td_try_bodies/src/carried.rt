@@ -45,7 +45,7 @@ fn put_loads(bytes: &mut [u8], layout: &Layout, loads: &[Load]) {
 }
 
 /// A message that lies so and carries loads; each byte of a word that wasn't loaded is `filler`.
-pub fn carried(
+pub(crate) fn carried(
     alloc: Global,
     layout: &Layout,
     loads: &Loads,

@@ -83,7 +83,7 @@ fn put_answer_of_code(
 }
 
 /// Puts the answer to a line. `AllocError`: there was no memory.
-pub fn put_answer(alloc: Global, line: &str, out: &mut String) -> Result<(), AllocError> {
+pub(crate) fn put_answer(alloc: Global, line: &str, out: &mut String) -> Result<(), AllocError> {
     let (words, digits) = line.rsplit_once(' ').unwrap_or(("", line));
     let bytes = match hex::decode(alloc, digits) {
         Ok(bytes) => bytes,

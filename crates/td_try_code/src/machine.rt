@@ -113,7 +113,7 @@ fn put_run_of_text(
 }
 
 /// Puts the answers to runs of a code, in one frame.
-pub fn put_runs(
+pub(crate) fn put_runs(
     alloc: Global,
     code: &Verified,
     runs: &str,

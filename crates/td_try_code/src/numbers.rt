@@ -42,7 +42,7 @@ fn list_at(numbers: &[u64]) -> Option<(&[u64], &[u64])> {
 }
 
 /// The run of these numbers. None: they aren't those of a run, as where the last list ends amid a store.
-pub fn run_of(numbers: &[u64]) -> Option<Run<'_>> {
+pub(crate) fn run_of(numbers: &[u64]) -> Option<Run<'_>> {
     let (number, rest) = short_at(numbers)?;
     let (args, rest) = list_at(rest)?;
     let (cells, rest) = list_at(rest)?;

@@ -58,7 +58,7 @@ fn put_copy(alloc: Global, out: &mut String, bytes: &[u8]) -> Result<(), AllocEr
 }
 
 /// Puts how a run came out: its verdict, the trace, the cells and so many buffers with which the frame was left, and the loads.
-pub fn put_outcome(
+pub(crate) fn put_outcome(
     alloc: Global,
     out: &mut String,
     verdict: Verdict,

@@ -126,7 +126,7 @@ fn any_return(shapes: &[Shape], marks: &[bool], from: usize, end: usize) -> bool
 }
 
 /// Goes through routine `n`.
-pub fn check_routine(
+pub(crate) fn check_routine(
     known: &Known<'_>,
     marks: &mut [bool],
     n: usize,

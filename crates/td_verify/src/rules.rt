@@ -116,7 +116,7 @@ fn leads_well(shapes: &[Shape], contexts: &[Innermost], end: usize, at: usize, s
 }
 
 /// Rule V1.
-pub fn keeps_target(shapes: &[Shape], contexts: &[Innermost], end: usize, at: usize) -> bool
+pub(crate) fn keeps_target(shapes: &[Shape], contexts: &[Innermost], end: usize, at: usize) -> bool
     requires at { at < end }
     requires end { end ≤ length shapes.now }
     requires known { length contexts.now ≡ length shapes.now + 1 }
@@ -128,7 +128,7 @@ pub fn keeps_target(shapes: &[Shape], contexts: &[Innermost], end: usize, at: us
 }
 
 /// Rule V3.
-pub fn calls_well(depths: &[u64], n: usize, shape: Shape) -> bool
+pub(crate) fn calls_well(depths: &[u64], n: usize, shape: Shape) -> bool
     requires { length depths.now ≡ n }
     ensures { IsTrue result ↔ CallsWell depths.now n shape }
 {
@@ -183,7 +183,7 @@ fn stands_well(now: Innermost, shape: Shape) -> bool
 }
 
 /// What an instruction weighs where it stands.
-pub fn cost(weights: &[u64], now: Innermost, shape: Shape) -> u64
+pub(crate) fn cost(weights: &[u64], now: Innermost, shape: Shape) -> u64
     requires small { (m : ℕ) → slice_index weights.now m ≤ 2 ^ 40 }
     requires own { own_weight weights.now shape ≤ 1 + 2 ^ 40 }
     ensures { (o : Option (List Bracket)) → IsFlat o → now ≡ innermost o → result ≡ rules.cost weights.now o shape }
@@ -258,7 +258,7 @@ fn ends_outside(shapes: &[Shape], contexts: &[Innermost], end: usize, at: usize)
 }
 
 /// Rule V4, where V1 holds.
-pub fn keeps_nesting(
+pub(crate) fn keeps_nesting(
     shapes: &[Shape],
     contexts: &[Innermost],
     empties: &[bool],

@@ -1,9 +1,8 @@
 -- What is shown of each instruction on the way through blocks, and the blocks that it is shown of.
 use Rattle.std.specs.Prelude.{◌≡◌, ℕ, ◌^◌, ◌<◌, ◌≤◌, ◌⊎◌, List, Some, false, length}
-use Rattle.td_ir.specs.declared.tables.Parts.{Parts}
+use Rattle.td_verify_lowered.specs.Imports.{Parts, Bracket}
 use Rattle.td_ir.specs.Tables.{lengths_of, instruction_of, routine_of, begin}
 use Rattle.td_verify.specs.Shape.{shapes_of}
-use Rattle.td_verify.specs.declared.bracket.Bracket.{Bracket}
 use Rattle.td_verify.specs.Brackets.{opened}
 use Rattle.td_verify.specs.Ways.{MayBeEmpty}
 use Rattle.td_verify.specs.Rules.{KeepsTarget, KeepsNesting}

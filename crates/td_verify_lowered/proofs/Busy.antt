@@ -2,16 +2,12 @@
 use Rattle.std.proofs.Common.{◌≡◌, ℕ, suc, ◌+◌, ◌<◌, ◌≤◌, ◌⊎◌, ⊎_elim, inl, inr, List, [], ◌∷◌, Option, Some, Bool, true, false, ◌||◌, ◌&&◌, nat_eq, nat_lt, nat_le, refl, sym, subst, ◌∙◌, arith}
 use Rattle.std.proofs.lemmas.Bool.{cases_lt}
 use Rattle.std.proofs.lemmas.Bool.Decides.{nat_tests}
-use Rattle.td_ir.specs.declared.tables.Parts.{Parts}
-use Rattle.td_ir.specs.declared.instructions.Instr.{Instr}
+use Rattle.td_verify_lowered.specs.Imports.{Parts, Instr, Shape, Bracket, Window as Opened, Loop as Looping}
 use Rattle.td_ir.specs.declared.instructions.Instr.TheVariants as i
-use Rattle.td_verify.specs.declared.shape.Shape.{Shape}
 use Rattle.td_verify.specs.declared.shape.Shape.TheVariants as s
 use Rattle.td_verify.specs.Shape.{shape}
 use Rattle.td_ir.specs.Tables.{instruction_of, lengths_of}
 use Rattle.td_verify.specs.Shape.{shapes_of}
-use Rattle.td_verify.specs.declared.bracket.Bracket.{Bracket}
-use Rattle.td_verify.specs.declared.bracket.Bracket.TheVariants.{Window as Opened, Loop as Looping}
 use Rattle.td_verify.specs.Brackets.{shape_at, opened}
 use Rattle.td_verify.specs.Ways.{Leads, IsIdle, IsClosed, MayBeEmpty}
 use Rattle.td_verify.specs.Brackets.{window_bytes}

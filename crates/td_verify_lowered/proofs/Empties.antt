@@ -1,7 +1,6 @@
 -- Routines that are busy take a byte.
 use Rattle.std.proofs.Common.{◌≡◌, ℕ, zero, suc, ◌+◌, ◌<◌, ◌≤◌, ⊎_elim, inl, inr, [], Some, Bool, true, false, length, refl, sym, subst, arith}
-use Rattle.td_ir.specs.declared.tables.Parts.{Parts}
-use Rattle.td_verify.specs.declared.shape.Shape.{Shape}
+use Rattle.td_verify_lowered.specs.Imports.{Parts, Shape}
 use Rattle.td_verify.specs.declared.shape.Shape.TheVariants as s
 use Rattle.td_verify.specs.Shape.{shape}
 use Rattle.td_ir.specs.Tables.{lengths_of}

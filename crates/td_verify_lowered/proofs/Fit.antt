@@ -1,17 +1,7 @@
 -- What the tables of code have for a definition's fields (own rule).
 use Rattle.std.specs.Prelude.{◌≡◌, ℕ, ◌+◌, ◌<◌, ◌≤◌, Bool, true, List, [], ◌∷◌, length, Option, Some, None}
 use Rattle.td_num.specs.Lists.{Each}
-use Rattle.td_core.specs.declared.module.Element.{Element}
-use Rattle.td_core.specs.declared.module.Element.TheVariants.{Number, Listed, Named, Unit as UnitElement, Rest, Zeros}
-use Rattle.td_core.specs.declared.module.Extent.{Extent}
-use Rattle.td_core.specs.declared.module.Extent.TheVariants.{Filling}
-use Rattle.td_core.specs.declared.module.Bits.{Bits}
-use Rattle.td_core.specs.declared.module.CopyOut.{CopyOut}
-use Rattle.td_core.specs.declared.module.Field.{Field}
-use Rattle.td_core.specs.declared.module.Case.{Case}
-use Rattle.td_core.specs.declared.module.Body.{Body}
-use Rattle.td_core.specs.declared.module.Body.TheVariants.{Struct, Casetype}
-use Rattle.td_ir.specs.declared.tables.Parts.{Parts}
+use Rattle.td_verify_lowered.specs.Imports.{Element, Number, Listed, Named, Unit as UnitElement, Rest, Zeros, Extent, Filling, Bits, CopyOut, Field, Case, Body, Struct, Casetype, Parts}
 use Rattle.td_ir.specs.Tables.{routine_of}
 use Rattle.td_verify.specs.Operands.{IsCellMap}
 use Rattle.td_lower_blocks.specs.Lowered.{parts_in}

@@ -4,8 +4,7 @@ use Rattle.std.proofs.lemmas.List.{length-map}
 use Rattle.std.proofs.lemmas.Option.{slice_get_within}
 use Rattle.std.proofs.lemmas.Bool.Decides.{nat_tests}
 use Rattle.td_num.specs.Numbers.{bytes_in}
-use Rattle.td_num.specs.declared.number.Width.{Width}
-use Rattle.td_num.specs.declared.number.Width.TheVariants.{One, Two, Four, Eight}
+use Rattle.td_verify_lowered.specs.Imports.{Width, One, Two, Four, Eight, Kind, Element, Number as NumberElement, Listed as ListedElement, Named as NamedElement, Unit as UnitElement, Rest, Zeros, Extent, Once, Filling, OnceFilling, UpToZero, Bits, CopyOut, Part, Field, Case, Body, Struct, Casetype, TypeDef, Parts}
 use Rattle.td_num.specs.Lists.{Each}
 use Rattle.td_core.specs.declared.module.NameId.{NameId}
 use Rattle.td_core.specs.Term.{Deed, done, set, keep, fork, answer, give_up}
@@ -13,25 +12,11 @@ use Rattle.td_core.specs.Formed.{Bound, parts_scope, AreCellsFormed, own_bounds,
 use Rattle.td_core.specs.Copies.{IsCopyWhole, AreOwnGiven, IsElementGiven, NamesCells, IsFieldCopying}
 use Rattle.td_core.specs.WellFormed.{OfSome, EachField, HasParts, AreBitsOf, AreParts, AreFieldParts, IsEnumThere, IsFieldWhole}
 use Rattle.td_core.specs.Weights.{of_named, fields_depth, default_depth, cases_depth, body_depth}
-use Rattle.td_core.specs.declared.kind.Kind.{Kind}
-use Rattle.td_core.specs.declared.module.Element.{Element}
-use Rattle.td_core.specs.declared.module.Element.TheVariants.{Number as NumberElement, Listed as ListedElement, Named as NamedElement, Unit as UnitElement, Rest, Zeros}
-use Rattle.td_core.specs.declared.module.Extent.{Extent}
-use Rattle.td_core.specs.declared.module.Extent.TheVariants.{Once, Filling, OnceFilling, UpToZero}
-use Rattle.td_core.specs.declared.module.Bits.{Bits}
-use Rattle.td_core.specs.declared.module.CopyOut.{CopyOut}
-use Rattle.td_core.specs.declared.module.Part.{Part}
-use Rattle.td_core.specs.declared.module.Field.{Field}
-use Rattle.td_core.specs.declared.module.Case.{Case}
-use Rattle.td_core.specs.declared.module.Body.{Body}
-use Rattle.td_core.specs.declared.module.Body.TheVariants.{Struct, Casetype}
-use Rattle.td_core.specs.declared.module.TypeDef.{TypeDef}
 use Rattle.td_kinds.specs.declared.error.KindFault.{KindFault}
 use Rattle.td_kinds.specs.declared.error.KindFault.TheVariants.{ZeroElement}
 use Rattle.td_kinds.specs.Kinds.{element_kind}
 use Rattle.td_kinds.specs.KindRules.{is_filled, fault_if, is_empty, field_faults, fields_faults, cases_faults, default_faults, body_faults}
 use Rattle.td_kinds.proofs.Faultless.{no_fault}
-use Rattle.td_ir.specs.declared.tables.Parts.{Parts}
 use Rattle.td_ir.specs.Tables.{routine_of}
 use Rattle.td_lower_blocks.specs.Lowered.{parts_in}
 use Rattle.td_lower_blocks.specs.Tabled.{Mapped, FieldsSited, DefaultSited, CasesSited, BodySited}

@@ -2,31 +2,17 @@
 use Rattle.std.proofs.Common.{◌≡◌, ℕ, zero, suc, ◌+◌, ◌^◌, ◌<◌, ◌≤◌, inl, inr, List, [], ◌∷◌, Bool, true, false, cond, nat_lt, length, Option, Some, None, refl, sym, subst, arith}
 use Rattle.std.proofs.lemmas.Bool.Decides.{nat_tests}
 use Rattle.td_num.specs.Numbers.{bytes_in}
-use Rattle.td_num.specs.declared.number.Width.{Width}
-use Rattle.td_num.specs.declared.number.Width.TheVariants.{One, Two, Four, Eight}
+use Rattle.td_verify_lowered.specs.Imports.{Width, One, Two, Four, Eight, Element, Number as NumberElement, Listed as ListedElement, Named as NamedElement, Unit as UnitElement, Rest, Zeros, Extent, Once, Filling, OnceFilling, UpToZero, Bits, CopyOut, Part, Field, Case, Body as BodyDef, Struct as StructDef, Casetype as CasetypeDef, TypeDef, Parts}
 use Rattle.td_num.specs.declared.number.ByteOrder.{ByteOrder}
 use Rattle.td_num.specs.declared.number.ByteOrder.TheVariants.{LittleEndian, BigEndian}
 use Rattle.td_num.specs.declared.number.NumberType.{NumberType}
 use Rattle.td_num.specs.Lists.{Each}
 use Rattle.td_core.specs.Term.{Term, Deed, done, set, keep, fork, answer, give_up}
 use Rattle.td_core.specs.WellFormed.{OfSome, EachField, HasParts}
-use Rattle.td_core.specs.declared.module.Element.{Element}
-use Rattle.td_core.specs.declared.module.Element.TheVariants.{Number as NumberElement, Listed as ListedElement, Named as NamedElement, Unit as UnitElement, Rest, Zeros}
-use Rattle.td_core.specs.declared.module.Extent.{Extent}
-use Rattle.td_core.specs.declared.module.Extent.TheVariants.{Once, Filling, OnceFilling, UpToZero}
-use Rattle.td_core.specs.declared.module.Bits.{Bits}
-use Rattle.td_core.specs.declared.module.CopyOut.{CopyOut}
-use Rattle.td_core.specs.declared.module.Part.{Part}
-use Rattle.td_core.specs.declared.module.Field.{Field}
-use Rattle.td_core.specs.declared.module.Case.{Case}
-use Rattle.td_core.specs.declared.module.Body.{Body as BodyDef}
-use Rattle.td_core.specs.declared.module.Body.TheVariants.{Struct as StructDef, Casetype as CasetypeDef}
-use Rattle.td_core.specs.declared.module.TypeDef.{TypeDef}
 use Rattle.td_core.proofs.Nodes.{some_parts}
 use Rattle.td_expr.specs.Same.{constant_of}
 use Rattle.td_meaning.specs.Naming.{is_needed}
 use Rattle.td_meaning.specs.Meaning.{divides, equals}
-use Rattle.td_ir.specs.declared.tables.Parts.{Parts}
 use Rattle.td_ir.specs.Tables.{routine_of}
 use Rattle.td_verify.specs.Operands.{IsWidth}
 use Rattle.td_lower_blocks.specs.Constructs.{Expr, Lit, Slot, Binary, Not, Complement, ShiftLeft, Both, Either, Choice, Range, Steps, Inner, CopyAll, Body}

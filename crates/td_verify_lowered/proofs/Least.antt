@@ -1,22 +1,8 @@
 -- What is written for a definition of values that take a byte takes a byte.
 use Rattle.std.proofs.Common.{◌≡◌, ℕ, zero, suc, ◌+◌, ◌^◌, ◌<◌, ◌≤◌, min, List, [], ◌∷◌, Bool, true, false, cond, nat_lt, length, Option, Some, None, refl, arith}
 use Rattle.td_num.specs.Numbers.{bytes_in}
-use Rattle.td_num.specs.declared.number.Width.{Width}
-use Rattle.td_num.specs.declared.number.Width.TheVariants.{One, Two, Four, Eight}
+use Rattle.td_verify_lowered.specs.Imports.{Width, One, Two, Four, Eight, Kind, Element, Number as NumberElement, Listed as ListedElement, Named as NamedElement, Unit as UnitElement, Rest, Zeros, Extent, Once, Filling, OnceFilling, UpToZero, Bits, CopyOut, Part, Field, Case, Body as BodyDef, Struct as StructDef, Casetype as CasetypeDef, TypeDef}
 use Rattle.td_core.specs.Term.{Term, Deed}
-use Rattle.td_core.specs.declared.kind.Kind.{Kind}
-use Rattle.td_core.specs.declared.module.Element.{Element}
-use Rattle.td_core.specs.declared.module.Element.TheVariants.{Number as NumberElement, Listed as ListedElement, Named as NamedElement, Unit as UnitElement, Rest, Zeros}
-use Rattle.td_core.specs.declared.module.Extent.{Extent}
-use Rattle.td_core.specs.declared.module.Extent.TheVariants.{Once, Filling, OnceFilling, UpToZero}
-use Rattle.td_core.specs.declared.module.Bits.{Bits}
-use Rattle.td_core.specs.declared.module.CopyOut.{CopyOut}
-use Rattle.td_core.specs.declared.module.Part.{Part}
-use Rattle.td_core.specs.declared.module.Field.{Field}
-use Rattle.td_core.specs.declared.module.Case.{Case}
-use Rattle.td_core.specs.declared.module.Body.{Body as BodyDef}
-use Rattle.td_core.specs.declared.module.Body.TheVariants.{Struct as StructDef, Casetype as CasetypeDef}
-use Rattle.td_core.specs.declared.module.TypeDef.{TypeDef}
 use Rattle.td_expr.specs.Same.{constant_of}
 use Rattle.td_meaning.specs.Naming.{is_needed}
 use Rattle.td_kinds.specs.declared.sizes.TheConstants.{SIZE_CAP}

@@ -1,7 +1,6 @@
 -- Which windows and loops are open where a block stands.
 use Rattle.std.specs.Prelude.{List, [], ◌∷◌, Bool, true, false}
-use Rattle.td_verify.specs.declared.bracket.Bracket.{Bracket}
-use Rattle.td_verify.specs.declared.bracket.Bracket.TheVariants.{Window as Opened, Loop as Looping}
+use Rattle.td_verify_lowered.specs.Imports.{Bracket, Window as Opened, Loop as Looping}
 use Rattle.td_verify_lowered.specs.Nesting.{Level, Outside, InWindow, InLoop}
 
 abbrev pub IsLevel : Level → List Bracket → Type 0

@@ -1,6 +1,6 @@
 -- The verifier accepts lowered code.
 use Rattle.std.proofs.Common.{◌≡◌, ℕ, zero, suc, ◌+◌, ◌-◌, ◌<◌, ◌≤◌, [], ◌∷◌, Some, Bool, false, length, slice_index, length-append, refl, sym, ap, subst, arith}
-use Rattle.td_ir.specs.declared.tables.Parts.{Parts}
+use Rattle.td_verify_lowered.specs.Imports.{Parts}
 use Rattle.td_ir.specs.Tables.{lengths_of, end_of}
 use Rattle.td_verify.specs.Shape.{shapes_of}
 use Rattle.td_verify.specs.Brackets.{opened}

@@ -4,9 +4,8 @@ use Rattle.std.proofs.lemmas.List.{length-take, length-drop, length-map, take_at
 use Rattle.std.proofs.lemmas.Option.{slice_get_within}
 use Rattle.td_num.specs.Lists.{Each}
 use Rattle.td_core.specs.declared.module.Buffer.{Buffer}
-use Rattle.td_core.specs.declared.module.TypeDef.{TypeDef}
+use Rattle.td_verify_lowered.specs.Imports.{TypeDef, Parts}
 use Rattle.td_core.specs.Copies.{AreBuffersGiven, AreOwnGiven}
-use Rattle.td_ir.specs.declared.tables.Parts.{Parts}
 use Rattle.td_ir.specs.Tables.{routine_of, map_of, buffer_cells, own_cells, cells_by}
 use Rattle.td_ir.proofs.Buffers.{buffer_count}
 use Rattle.td_lower_blocks.specs.Laid.{rooms}

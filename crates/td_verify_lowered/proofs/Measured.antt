@@ -2,24 +2,13 @@
 use Rattle.std.proofs.Common.{◌≡◌, ℕ, zero, suc, ◌+◌, ◌-◌, ◌*◌, ◌^◌, ◌<◌, ◌≤◌, List, [], ◌∷◌, Bool, true, false, cond, nat_lt, length, Option, Some, None, refl, arith}
 use Rattle.td_num.specs.Lists.{Each}
 use Rattle.td_core.specs.declared.expressions.Binary.{Binary as Operator}
-use Rattle.td_core.specs.declared.expressions.Binary.TheVariants.{Plus, Minus, Times, Over, Modulo, BitAnd, BitOr, BitXor, ShiftLeft as ShiftLeftOp, ShiftRight}
+use Rattle.td_core.specs.declared.expressions.Binary.TheVariants.{Add, Subtract, Multiply, Divide, Remainder, BitAnd, BitOr, BitXor, ShiftLeft as ShiftLeftOp, ShiftRight}
 use Rattle.td_core.specs.declared.expressions.Relation.{Relation}
 use Rattle.td_core.specs.declared.expressions.Relation.TheVariants.{Equal, NotEqual, Less, LessEqual, Greater, GreaterEqual}
 use Rattle.td_core.specs.Term.{Term, number, name, complement, negation, compute, compare, both, either, choice, range_okay, measure, Deed, done, set, keep, fork, answer, give_up}
 use Rattle.td_core.specs.WellFormed.{OfSome, EachField, HasParts}
 use Rattle.td_core.specs.Weights.{option_nodes, terms_nodes, deed_nodes, action_nodes, element_nodes, extent_nodes, part_nodes, total, inner_nodes, of_named, as_array, fields_weight as module_weight, default_weight, cases_weight as module_cases_weight, body_weight as module_body_weight, head_nodes}
-use Rattle.td_core.specs.declared.module.Element.{Element}
-use Rattle.td_core.specs.declared.module.Element.TheVariants.{Number as NumberElement, Listed as ListedElement, Named as NamedElement, Unit as UnitElement, Rest, Zeros}
-use Rattle.td_core.specs.declared.module.Extent.{Extent}
-use Rattle.td_core.specs.declared.module.Extent.TheVariants.{Once, Filling, OnceFilling, UpToZero}
-use Rattle.td_core.specs.declared.module.Bits.{Bits}
-use Rattle.td_core.specs.declared.module.CopyOut.{CopyOut}
-use Rattle.td_core.specs.declared.module.Part.{Part}
-use Rattle.td_core.specs.declared.module.Field.{Field}
-use Rattle.td_core.specs.declared.module.Case.{Case}
-use Rattle.td_core.specs.declared.module.Body.{Body as BodyDef}
-use Rattle.td_core.specs.declared.module.Body.TheVariants.{Struct as StructDef, Casetype as CasetypeDef}
-use Rattle.td_core.specs.declared.module.TypeDef.{TypeDef}
+use Rattle.td_verify_lowered.specs.Imports.{Element, Number as NumberElement, Listed as ListedElement, Named as NamedElement, Unit as UnitElement, Rest, Zeros, Extent, Once, Filling, OnceFilling, UpToZero, Bits, CopyOut, Part, Field, Case, Body as BodyDef, Struct as StructDef, Casetype as CasetypeDef, TypeDef}
 use Rattle.td_core.proofs.Nodes.{some_parts}
 use Rattle.td_expr.specs.Same.{constant_of}
 use Rattle.td_meaning.specs.Naming.{is_needed}
@@ -30,11 +19,11 @@ use Rattle.td_lower_blocks.specs.Placed.{ElementPlaced, ElementsPlaced, OnePlace
 use Rattle.td_verify_lowered.specs.Weights.{nodes, all_nodes, act_nodes, inner_weight, weight_of, cases_weight, body_weight}
 
 pub computed_nodes : (op : Operator) (mask : ℕ) (a b : Expr) → nodes (computed_of op mask a b) ≡ 1 + (nodes a + nodes b)
-computed_nodes Plus mask a b = refl
-computed_nodes Minus mask a b = refl
-computed_nodes Times mask a b = refl
-computed_nodes Over mask a b = refl
-computed_nodes Modulo mask a b = refl
+computed_nodes Add mask a b = refl
+computed_nodes Subtract mask a b = refl
+computed_nodes Multiply mask a b = refl
+computed_nodes Divide mask a b = refl
+computed_nodes Remainder mask a b = refl
 computed_nodes BitAnd mask a b = refl
 computed_nodes BitOr mask a b = refl
 computed_nodes BitXor mask a b = refl

@@ -2,19 +2,13 @@
 use Rattle.std.proofs.Common.{◌≡◌, ℕ, zero, suc, ◌+◌, ◌-◌, ◌<◌, ◌≤◌, max, List, [], ◌∷◌, Bool, true, nat_lt, length, slice_get, Option, Some, None, sym, ap, subst, ◌∙◌, arith}
 use Rattle.std.proofs.lemmas.Bool.Decides.{nat_tests}
 use Rattle.td_num.specs.Lists.{Each}
-use Rattle.td_core.specs.declared.module.Field.{Field}
-use Rattle.td_core.specs.declared.module.Case.{Case}
-use Rattle.td_core.specs.declared.module.Body.{Body as BodyDef}
-use Rattle.td_core.specs.declared.module.Body.TheVariants.{Struct as StructDef, Casetype as CasetypeDef}
-use Rattle.td_core.specs.declared.module.TypeDef.{TypeDef}
-use Rattle.td_core.specs.declared.module.Module.{Module}
+use Rattle.td_verify_lowered.specs.Imports.{Field, Case, Body as BodyDef, Struct as StructDef, Casetype as CasetypeDef, TypeDef, Module, Parts}
 use Rattle.td_core.specs.Formed.{param_bounds}
 use Rattle.td_core.specs.Copies.{IsDefinitionCopying}
 use Rattle.td_core.specs.WellFormed.{OfSome, EachField, HasParts, IsFieldWhole}
 use Rattle.td_core.specs.Weights.{definition_depth, body_depth, depth_of, definition_weight, weight_of, below_by, either_number}
 use Rattle.td_kinds.specs.Kinds.{kinds_below, definition_kind, body_kind}
 use Rattle.td_kinds.specs.KindRules.{kinds_of}
-use Rattle.td_ir.specs.declared.tables.Parts.{Parts}
 use Rattle.td_ir.specs.Tables.{routine_of, first_of, end_of}
 use Rattle.td_verify.specs.Safe.{before}
 use Rattle.td_verify.specs.Verify.{IsSound}

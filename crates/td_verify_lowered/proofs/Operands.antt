@@ -1,15 +1,7 @@
 -- Cells and bits of a definition.
 use Rattle.std.proofs.Common.{◌≡◌, ℕ, ◌+◌, ◌≤◌, List, [], ◌∷◌, length, slice_get, Option, Some, None, arith}
 use Rattle.td_num.specs.Lists.{Each}
-use Rattle.td_core.specs.declared.module.Bits.{Bits}
-use Rattle.td_core.specs.declared.module.CopyOut.{CopyOut}
-use Rattle.td_core.specs.declared.module.Part.{Part}
-use Rattle.td_core.specs.declared.module.Field.{Field}
-use Rattle.td_core.specs.declared.module.Case.{Case}
-use Rattle.td_core.specs.declared.module.Body.{Body}
-use Rattle.td_core.specs.declared.module.Body.TheVariants.{Struct, Casetype}
-use Rattle.td_core.specs.declared.module.TypeDef.{TypeDef}
-use Rattle.td_core.specs.declared.module.Module.{Module}
+use Rattle.td_verify_lowered.specs.Imports.{Bits, CopyOut, Part, Field, Case, Body, Struct, Casetype, TypeDef, Module}
 use Rattle.td_core.specs.Copies.{IsCopyWhole, IsFieldCopying, IsDefinitionCopying}
 use Rattle.td_core.specs.WellFormed.{OfSome, EachField, IsFieldWhole}
 use Rattle.td_lower_blocks.specs.Tops.{copy_cells, fields_cells, default_cells, cases_cells, body_cells, bits_end, parts_bits, fields_bits, default_bits, cases_bits, body_bits}

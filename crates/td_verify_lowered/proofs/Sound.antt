@@ -1,7 +1,6 @@
 -- The verifier accepts code in blocks.
 use Rattle.std.proofs.Common.{◌≡◌, ℕ, zero, suc, ◌+◌, ◌-◌, ◌^◌, ◌<◌, ◌≤◌, inr, List, [], Some, false, length, slice_index, refl, sym, ap, subst, arith}
-use Rattle.td_ir.specs.declared.tables.Parts.{Parts}
-use Rattle.td_verify.specs.declared.shape.Shape.{Shape}
+use Rattle.td_verify_lowered.specs.Imports.{Parts, Shape}
 use Rattle.td_verify.specs.declared.shape.Shape.TheVariants as s
 use Rattle.td_verify.specs.Shape.{shape}
 use Rattle.td_ir.specs.Tables.{instruction_of, lengths_of}

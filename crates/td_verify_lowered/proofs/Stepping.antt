@@ -1,6 +1,6 @@
 -- Fields and definitions in blocks.
 use Rattle.std.proofs.Common.{◌≡◌, ℕ, zero, suc, ◌+◌, ◌^◌, ◌<◌, ◌≤◌, ◌⊎◌, ⊎_elim, inl, inr, min, List, Bool, true, false, length, slice_index, refl, arith}
-use Rattle.td_ir.specs.declared.tables.Parts.{Parts}
+use Rattle.td_verify_lowered.specs.Imports.{Parts}
 use Rattle.td_ir.specs.declared.instructions.Instr.TheVariants as i
 use Rattle.td_verify.specs.declared.shape.Shape.TheVariants as s
 use Rattle.td_ir.specs.Tables.{routine_of}

@@ -1,6 +1,6 @@
 -- Expressions, arguments and actions in blocks.
 use Rattle.std.proofs.Common.{ℕ, ◌+◌, ◌*◌, ◌<◌, ◌≤◌, inl, inr, List, [], ◌∷◌, Bool, true, false, refl, arith}
-use Rattle.td_ir.specs.declared.tables.Parts.{Parts}
+use Rattle.td_verify_lowered.specs.Imports.{Parts}
 use Rattle.td_ir.specs.declared.instructions.Instr.TheVariants as i
 use Rattle.td_ir.specs.Tables.{routine_of}
 use Rattle.td_lower_blocks.specs.Block.{Block, Done, Then, Stop, Leave, Guard, Scope}

@@ -1,15 +1,11 @@
 -- What blocks weigh by the verifier's sum.
 use Rattle.std.proofs.Common.{◌≡◌, ℕ, zero, suc, ◌+◌, ◌-◌, ◌*◌, ◌<◌, ◌≤◌, List, [], ◌∷◌, ◌++◌, Option, Some, Bool, true, false, cond, length, slice_index, refl, sym, ap, subst, ◌∙◌, arith}
-use Rattle.td_ir.specs.declared.tables.Parts.{Parts}
-use Rattle.td_ir.specs.declared.instructions.Instr.{Instr}
+use Rattle.td_verify_lowered.specs.Imports.{Parts, Instr, Shape, Bracket, Window as Opened, Loop as Looping}
 use Rattle.td_ir.specs.declared.instructions.Instr.TheVariants as i
-use Rattle.td_verify.specs.declared.shape.Shape.{Shape}
 use Rattle.td_verify.specs.declared.shape.Shape.TheVariants as s
 use Rattle.td_verify.specs.Shape.{shape}
 use Rattle.td_ir.specs.Tables.{instruction_of}
 use Rattle.td_verify.specs.Shape.{shapes_of}
-use Rattle.td_verify.specs.declared.bracket.Bracket.{Bracket}
-use Rattle.td_verify.specs.declared.bracket.Bracket.TheVariants.{Window as Opened, Loop as Looping}
 use Rattle.td_verify.specs.Brackets.{shape_at, opened}
 use Rattle.td_verify.specs.Rules.{own_weight, counts_twice, cost, weigh, deepest, calls_deep}
 use Rattle.td_verify.specs.Brackets.{in_loop}

@@ -1,6 +1,6 @@
 -- What lowering rests on: facts about a definition, its routine and the tables.
 use Rattle.std.specs.Prelude.{◌≡◌, ℕ, ◌+◌, ◌^◌, ◌<◌, ◌≤◌, List, [], ◌∷◌, Bool, true, length}
-use Rattle.td_ir.specs.declared.tables.Parts.{Parts}
+use Rattle.td_verify_lowered.specs.Imports.{Parts}
 use Rattle.td_ir.specs.Tables.{routine_of, site_of}
 use Rattle.td_verify.specs.Operands.{IsCellMap, IsWidth}
 use Rattle.td_lower_blocks.specs.Placed.{Reaches}

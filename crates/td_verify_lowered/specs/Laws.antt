@@ -1,6 +1,6 @@
 -- Laws of blocks.
 use Rattle.std.specs.Prelude.{◌≡◌, ℕ, ◌^◌, ◌<◌, ◌≤◌, Bool, true, false, length}
-use Rattle.td_ir.specs.declared.tables.Parts.{Parts}
+use Rattle.td_verify_lowered.specs.Imports.{Parts}
 use Rattle.td_ir.specs.Tables.{lengths_of, routine_of, begin}
 use Rattle.td_verify.specs.Shape.{shapes_of}
 use Rattle.td_verify.specs.Verify.{IsSound, weights}

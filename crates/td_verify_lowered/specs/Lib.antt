@@ -1,3 +1,4 @@
+pub mod Imports
 pub mod Nesting
 pub mod Weights
 pub mod Good

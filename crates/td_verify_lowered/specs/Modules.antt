@@ -1,15 +1,13 @@
 -- Code that is a module's blocks, laid out, and that the verifier accepts it.
 use Rattle.std.specs.Prelude.{◌≡◌, ℕ, suc, ◌+◌, ◌<◌, ◌≤◌, [], length, Some, slice_get}
 use Rattle.td_num.specs.Lists.{Each}
-use Rattle.td_core.specs.declared.module.TypeDef.{TypeDef}
-use Rattle.td_core.specs.declared.module.Module.{Module}
+use Rattle.td_verify_lowered.specs.Imports.{TypeDef, Module, Parts}
 use Rattle.td_core.specs.declared.limits.TheConstants.{MOST_DEPTH, MOST_WEIGHT}
 use Rattle.td_core.specs.Formed.{IsModuleFormed}
 use Rattle.td_core.specs.WellFormed.{EachField, IsFieldWhole}
 use Rattle.td_core.specs.Copies.{IsCopying}
 use Rattle.td_core.specs.Weights.{depth_of, weight_of}
 use Rattle.td_kinds.specs.KindRules.{kind_faults}
-use Rattle.td_ir.specs.declared.tables.Parts.{Parts}
 use Rattle.td_ir.specs.Tables.{end_of}
 use Rattle.td_verify.specs.Safe.{before}
 use Rattle.td_verify.specs.Verify.{IsSound}

@@ -1,9 +1,7 @@
 -- Blocks as the rules of the verifier want them (own rule): how they nest, which instructions stand in them,
 -- what they weigh, and which of them take a byte.
 use Rattle.std.specs.Prelude.{◌≡◌, ℕ, ◌+◌, ◌*◌, ◌<◌, ◌≤◌, ◌⊎◌, List, Bool, true, false, cond, length}
-use Rattle.td_ir.specs.declared.tables.Parts.{Parts}
-use Rattle.td_ir.specs.declared.instructions.Instr.{Instr}
-use Rattle.td_verify.specs.declared.shape.Shape.{Shape}
+use Rattle.td_verify_lowered.specs.Imports.{Parts, Instr, Shape}
 use Rattle.td_verify.specs.declared.shape.Shape.TheVariants as s
 use Rattle.td_verify.specs.Shape.{shape}
 use Rattle.td_ir.specs.Tables.{routine_of}

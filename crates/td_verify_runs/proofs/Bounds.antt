@@ -4,7 +4,7 @@ use Rattle.std.specs.Prelude.{nat_eq}
 use Rattle.std.proofs.Math.Nat.{mul-le-mul_left}
 use Rattle.std.proofs.lemmas.Option.{slice_get-get_or}
 use Rattle.td_core.specs.declared.outcome.Reason.{Reason}
-use Rattle.td_ir.specs.declared.tables.Parts.{Parts}
+use Rattle.td_verify_runs.specs.Imports.{Parts, Call, While, Again, Return}
 use Rattle.td_ir.specs.declared.instructions.Instr.TheVariants as i
 use Rattle.td_ir.specs.Tables.{routine_of, cells_by, instruction_of, lengths_of, first_of, end_of}
 use Rattle.td_ir.specs.State.{State, left, registers_from, Way, Returned, Turned, Failed, Stuck, Exit, at_once, after}
@@ -12,7 +12,6 @@ use Rattle.td_ir.specs.Flow.{Flow, Goes, Fails, Calls, Returns, Loops, Turns, ef
 use Rattle.td_ir.specs.Run.{back, back_by, again, again_by, turns, frame, places_by, entered, block}
 use Rattle.td_ir.specs.RunLaws.{HasEffect}
 use Rattle.td_ir.proofs.Blocks.{run_goes, run_fails, run_returns, run_turns, run_calls, run_loops}
-use Rattle.td_verify.specs.declared.shape.Shape.TheVariants.{Call, While, Again, Return}
 use Rattle.td_verify.specs.Shape.{shape, shapes_of}
 use Rattle.td_verify.specs.Brackets.{shape_at, opened, in_loop, window_bytes}
 use Rattle.td_verify.specs.Ways.{MayBeEmpty}

@@ -2,12 +2,9 @@
 use Rattle.std.proofs.Common.{◌≡◌, ℕ, ◌+◌, ◌-◌, ◌*◌, ◌<◌, ◌≤◌, Bool, true, false, cond, List, length, Option, sym, ap, ◌∙◌, subst, arith, ⊎_elim}
 use Rattle.std.proofs.lemmas.Bool.{cases_eq}
 use Rattle.std.proofs.Math.Nat.{mul-le-mul_left, mul-le-mul_right}
-use Rattle.td_ir.specs.declared.tables.Parts.{Parts}
+use Rattle.td_verify_runs.specs.Imports.{Parts, Shape, Straight, Jump, Branch, Call, Return, Fail, While, Again, Open, Close, Bracket}
 use Rattle.td_ir.specs.Tables.{lengths_of, begin, end_of as end_at}
-use Rattle.td_verify.specs.declared.shape.Shape.{Shape}
-use Rattle.td_verify.specs.declared.shape.Shape.TheVariants.{Straight, Jump, Branch, Call, Return, Fail, While, Again, Open, Close}
 use Rattle.td_verify.specs.Shape.{shapes_of}
-use Rattle.td_verify.specs.declared.bracket.Bracket.{Bracket}
 use Rattle.td_verify.specs.Brackets.{shape_at, opened, in_loop}
 use Rattle.td_verify.specs.Rules.{cost}
 use Rattle.td_verify.specs.Verify.{IsIn, weights}

@@ -7,16 +7,13 @@ use Rattle.td_num.specs.Numbers.{rising_at, ordered_at, places_from}
 use Rattle.td_num.specs.Lists.{is_among, first_where, one_more, looked_at}
 use Rattle.td_num.proofs.Equals.{next_product}
 use Rattle.td_core.specs.declared.outcome.Reason.TheVariants.{NotEnough, ListSize}
-use Rattle.td_ir.specs.declared.instructions.Instr.{Instr}
+use Rattle.td_verify_runs.specs.Imports.{Instr, Parts, Shape, Straight, Jump, Branch, Open, Close}
 use Rattle.td_ir.specs.declared.instructions.Instr.TheVariants as i
-use Rattle.td_ir.specs.declared.tables.Parts.{Parts}
 use Rattle.td_ir.specs.Tables.{routine_of, set_of}
 use Rattle.td_ir.specs.State.{State, reg, with_reg, at_pos, left}
 use Rattle.td_ir.specs.Values.{bit, operated, bits_of, order_of, numbers_from, is_zero, is_nonzero}
 use Rattle.td_ir.specs.Flow.{Flow, Goes, Fails, Calls, Returns, Loops, Turns, Effect, effect, plain, where_so, has_bytes, zeros_flow, zeroterm_flow}
-use Rattle.td_verify.specs.declared.shape.Shape.{Shape}
 use Rattle.td_verify.specs.declared.shape.Shape.TheVariants as shapes
-use Rattle.td_verify.specs.declared.shape.Shape.TheVariants.{Straight, Jump, Branch, Open, Close}
 use Rattle.td_verify.specs.Shape.{shape}
 use Rattle.td_verify.specs.Ways.{Leads}
 use Rattle.td_verify.specs.Operands.{HasOperands, IsWidth}

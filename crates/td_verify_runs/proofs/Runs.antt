@@ -1,12 +1,11 @@
 -- A run of verified code comes to an answer within its weight, and each turn of a loop takes a byte. Cited by other crates.
 use Rattle.std.proofs.Common.{◌≡◌, ℕ, suc, ◌+◌, ◌<◌, ◌≤◌, List, length, ap, ◌∙◌, subst, arith}
 use Rattle.td_num.specs.Numbers.{places_from}
-use Rattle.td_ir.specs.declared.tables.Parts.{Parts}
+use Rattle.td_verify_runs.specs.Imports.{Parts, While}
 use Rattle.td_ir.specs.Tables.{routine_of, entry_of, first_of, end_of}
 use Rattle.td_ir.specs.State.{State, Way, Returned, Turned, Failed, Stuck}
 use Rattle.td_ir.specs.Run.{entered, started, block, run_routine, run}
 use Rattle.td_ir.specs.WellFormed.{IsCode}
-use Rattle.td_verify.specs.declared.shape.Shape.TheVariants.{While}
 use Rattle.td_verify.specs.Shape.{shapes_of}
 use Rattle.td_verify.specs.Brackets.{shape_at, in_loop}
 use Rattle.td_verify.specs.Verify.{IsIn, IsSound}

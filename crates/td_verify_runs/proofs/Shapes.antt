@@ -1,7 +1,6 @@
 -- Shapes of the instructions of code. Cited by other crates.
 use Rattle.std.proofs.Common.{◌≡◌, ℕ, sym, ap, ◌∙◌}
-use Rattle.td_ir.specs.declared.tables.Parts.{Parts}
-use Rattle.td_ir.specs.declared.instructions.Instr.{Instr}
+use Rattle.td_verify_runs.specs.Imports.{Parts, Instr}
 use Rattle.td_ir.specs.Tables.{instruction_of}
 use Rattle.td_verify.specs.Shape.{shape, shapes_of}
 use Rattle.td_verify.specs.Brackets.{shape_at}

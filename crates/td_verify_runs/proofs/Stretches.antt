@@ -1,14 +1,11 @@
 -- Routines from their beginnings, loops' bodies, and calls. Cited by other crates.
 use Rattle.std.proofs.Common.{◌≡◌, ℕ, suc, ◌+◌, ◌-◌, ◌*◌, ◌<◌, ◌≤◌, false, cond, List, length, Option, Some, None, sym, refl, ap, ◌∙◌, subst, arith}
 use Rattle.std.proofs.Math.Nat.{mul-le-mul_left, mul-le-mul_right}
-use Rattle.td_ir.specs.declared.tables.Parts.{Parts}
+use Rattle.td_verify_runs.specs.Imports.{Parts, While, Call, Return, Bracket, Loop}
 use Rattle.td_ir.specs.Tables.{lengths_of, first_of, end_of as end_at}
 use Rattle.td_ir.proofs.Begins.{begin_up}
-use Rattle.td_verify.specs.declared.shape.Shape.TheVariants.{While, Call, Return}
 use Rattle.td_verify.specs.Shape.{shapes_of}
 use Rattle.td_verify.specs.Rules.{CallsWell}
-use Rattle.td_verify.specs.declared.bracket.Bracket.{Bracket}
-use Rattle.td_verify.specs.declared.bracket.Bracket.TheVariants.{Loop}
 use Rattle.td_verify.specs.Brackets.{shape_at, opened, and_then, opening, in_loop, window_bytes}
 use Rattle.td_verify.specs.Verify.{IsIn, depths}
 use Rattle.td_verify.specs.Safe.{IsSafe, IsWhole, IsWholeAt, before, looped}

@@ -1,13 +1,9 @@
 -- Windows, loops and ways without a byte, from one instruction to the next. Cited by other crates.
 use Rattle.std.proofs.Common.{◌≡◌, ℕ, zero, suc, ◌+◌, ◌<◌, ◌≤◌, true, false, List, [], ◌∷◌, Option, Some, None, inr, sym, refl, ap, ◌∙◌, subst, arith, ⊎_elim}
 use Rattle.std.proofs.lemmas.Bool.{cases_eq}
-use Rattle.td_ir.specs.declared.tables.Parts.{Parts}
+use Rattle.td_verify_runs.specs.Imports.{Parts, Shape, Straight, Jump, Branch, Call, Return, Fail, While, Again, Open, Close, Bracket, Window, Loop}
 use Rattle.td_ir.specs.Tables.{lengths_of}
-use Rattle.td_verify.specs.declared.shape.Shape.{Shape}
-use Rattle.td_verify.specs.declared.shape.Shape.TheVariants.{Straight, Jump, Branch, Call, Return, Fail, While, Again, Open, Close}
 use Rattle.td_verify.specs.Shape.{shapes_of}
-use Rattle.td_verify.specs.declared.bracket.Bracket.{Bracket}
-use Rattle.td_verify.specs.declared.bracket.Bracket.TheVariants.{Window, Loop}
 use Rattle.td_verify.specs.Brackets.{shape_at, opened, and_then, closing_window, in_loop, some_loop, window_bytes}
 use Rattle.td_verify.specs.Ways.{Leads, IsIdle, MayBeEmpty}
 use Rattle.td_verify.specs.Verify.{IsIn}

@@ -1,12 +1,11 @@
 -- Laws of runs of verified code (own rule; docs/language/code.md).
 use Rattle.std.specs.Prelude.{◌≡◌, ℕ, ◌+◌, ◌*◌, ◌<◌, ◌≤◌, List, length}
 use Rattle.td_core.specs.declared.module.Entry.{Entry}
-use Rattle.td_ir.specs.declared.tables.Parts.{Parts}
+use Rattle.td_verify_runs.specs.Imports.{Parts, While}
 use Rattle.td_ir.specs.Tables.{entry_of, end_of}
 use Rattle.td_ir.specs.State.{State, Way, Returned, Turned, Failed, Stuck}
 use Rattle.td_ir.specs.Run.{block, run_routine, run}
 use Rattle.td_ir.specs.WellFormed.{IsCode}
-use Rattle.td_verify.specs.declared.shape.Shape.TheVariants.{While}
 use Rattle.td_verify.specs.Shape.{shapes_of}
 use Rattle.td_verify.specs.Brackets.{shape_at}
 use Rattle.td_verify.specs.Verify.{IsIn, IsSound}

@@ -1,3 +1,4 @@
+pub mod Imports
 pub mod Moves
 pub mod Stretches
 pub mod Laws

@@ -1,7 +1,6 @@
 -- What an instruction that is neither a call nor a loop does to the position and to the end, by its shape.
 use Rattle.std.specs.Prelude.{◌≡◌, ℕ, ◌+◌, ◌-◌, ◌≤◌}
-use Rattle.td_verify.specs.declared.shape.Shape.{Shape}
-use Rattle.td_verify.specs.declared.shape.Shape.TheVariants.{Straight, Call, While, Open, Close}
+use Rattle.td_verify_runs.specs.Imports.{Shape, Straight, Call, While, Open, Close}
 
 -- neither a call nor a loop
 abbrev pub Passes : Shape → Type 0

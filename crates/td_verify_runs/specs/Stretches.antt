@@ -1,9 +1,8 @@
 -- Runnable code, and its stretches: a routine from its beginning, or a loop's body.
 use Rattle.std.specs.Prelude.{◌≡◌, ℕ, ◌<◌, ◌≤◌, true, cond}
-use Rattle.td_ir.specs.declared.tables.Parts.{Parts}
+use Rattle.td_verify_runs.specs.Imports.{Parts, Return, Again}
 use Rattle.td_ir.specs.Tables.{lengths_of, end_of}
 use Rattle.td_ir.specs.WellFormed.{IsCode}
-use Rattle.td_verify.specs.declared.shape.Shape.TheVariants.{Return, Again}
 use Rattle.td_verify.specs.Shape.{shapes_of}
 use Rattle.td_verify.specs.Brackets.{shape_at, opened, window_bytes}
 use Rattle.td_verify.specs.Ways.{IdleWay, MayBeEmpty}

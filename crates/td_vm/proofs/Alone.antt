@@ -1,7 +1,7 @@
 -- A validation from an entry point without buffers leaves no copies. Cited by other crates.
 use Rattle.std.proofs.Common.{◌≡◌, ℕ, ap}
 use Rattle.std.specs.Prelude.{[]}
-use Rattle.td_core.specs.declared.outcome.Verdict.{Verdict}
+use Rattle.td_vm.specs.Imports.{Verdict}
 use Rattle.td_vm.specs.Frames.{FrameView, outcome_in}
 
 pub no_copies : (f : FrameView) (k : ℕ) (v : Verdict) → k ≡ 0 → outcome_in f k v ≡ record { verdict = v; trace = f.trace; cells = f.cells; copies = [] }

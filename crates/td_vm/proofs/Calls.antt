@@ -3,12 +3,9 @@ use Rattle.std.proofs.Common.{◌≡◌, ℕ, zero, suc, ◌+◌, ◌-◌, ◌<�
 use Rattle.std.specs.Prelude.{slice_index, nat_eq}
 use Rattle.std.proofs.lemmas.Bool.{cases_lt, eqb-true}
 use Rattle.td_num.proofs.Equals.{below_other}
-use Rattle.td_ir.specs.declared.tables.Parts.{Parts}
-use Rattle.td_ir.specs.declared.instructions.Instr.{Instr}
+use Rattle.td_vm.specs.Imports.{Parts, Instr, Shape, Call}
 use Rattle.td_ir.specs.Tables.{instruction_of, lengths_of, begin}
 use Rattle.td_ir.proofs.Begins.{begin_next}
-use Rattle.td_verify.specs.declared.shape.Shape.{Shape}
-use Rattle.td_verify.specs.declared.shape.Shape.TheVariants.{Call}
 use Rattle.td_verify.specs.Shape.{shapes_of}
 use Rattle.td_verify.specs.Brackets.{shape_at}
 use Rattle.td_verify.specs.Verify.{IsIn}

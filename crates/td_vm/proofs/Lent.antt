@@ -7,7 +7,7 @@ use Rattle.td_core.specs.Held.{AreHeld}
 use Rattle.td_core.specs.Outcome.{copies_by}
 use Rattle.td_stream.specs.Copies.{BufferView, held_by, rooms_of, empty_with}
 use Rattle.td_stream.proofs.Rooms.{rooms_again}
-use Rattle.td_ir.specs.declared.tables.Parts.{Parts}
+use Rattle.td_vm.specs.Imports.{Parts}
 use Rattle.td_vm.specs.Need.{most_rooms}
 use Rattle.td_vm.specs.Frames.{FrameView, IsArmed}
 use Rattle.td_vm.specs.Machine.{AreRoomy}

@@ -8,7 +8,7 @@ use Rattle.td_num.specs.Numbers.{places_from}
 use Rattle.td_core.specs.Held.{IsBufferAt}
 use Rattle.td_core.specs.Outcome.{copies_by}
 use Rattle.td_stream.specs.Copies.{held_by, empty_with}
-use Rattle.td_ir.specs.declared.tables.Parts.{Parts}
+use Rattle.td_vm.specs.Imports.{Parts}
 use Rattle.td_ir.specs.Tables.{routine_of, map_of, buffer_cells, own_cells, cells_by}
 use Rattle.td_ir.specs.Run.{places_by}
 use Rattle.td_ir.proofs.Buffers.{buffer_count}

@@ -5,19 +5,14 @@ use Rattle.std.proofs.lemmas.List.{take-take, take-append-le, get_or-map, length
 use Rattle.std.proofs.Math.ListN.{get_or-append}
 use Rattle.std.proofs.Math.Seq.{get_or-append_seam}
 use Rattle.td_num.specs.Numbers.{places_from}
-use Rattle.td_core.specs.declared.module.Entry.{Entry}
+use Rattle.td_vm.specs.Imports.{Entry, Parts, Shape, Straight, Jump, Branch, Call, Return, Fail, While, Again, Open, Close, TraceRoom, CodeView}
 use Rattle.td_stream.specs.Copies.{BufferView, rooms_of}
-use Rattle.td_ir.specs.declared.tables.Parts.{Parts}
 use Rattle.td_ir.specs.Tables.{routine_of, entry_of, lengths_of, begin, first_of, end_of as end_at}
 use Rattle.td_ir.specs.Entries.{Fits}
-use Rattle.td_verify.specs.declared.shape.Shape.{Shape}
-use Rattle.td_verify.specs.declared.shape.Shape.TheVariants.{Straight, Jump, Branch, Call, Return, Fail, While, Again, Open, Close}
 use Rattle.td_verify.specs.Shape.{shapes_of}
 use Rattle.td_verify.specs.Brackets.{shape_at}
 use Rattle.td_verify.specs.Rules.{CallsWell}
 use Rattle.td_verify.specs.Verify.{IsIn, depths}
-use Rattle.td_vm_step.specs.declared.activation.TraceRoom.{TraceRoom}
-use Rattle.td_vm_step.specs.declared.activation.CodeView.{CodeView}
 use Rattle.td_vm.specs.Need.{called, greatest, need, room_below, most, greatest_of, entry_cells, entry_rooms, most_entry_cells, most_buffers, most_room, most_rooms, registers, cells, level}
 use Rattle.td_vm.specs.Frames.{FrameView, AreBegins, IsArmed}
 use Rattle.td_verify_runs.specs.Stretches.{IsRunnable}

@@ -1,8 +1,7 @@
 -- Stretches of a run, one after the other.
 use Rattle.std.proofs.Common.{◌≡◌, ℕ, ◌+◌, List, [], ◌++◌, sym, subst, arith, append_assoc, append-nil}
-use Rattle.td_stream.specs.declared.load.Load.{Load}
+use Rattle.td_vm.specs.Imports.{Load, Stream}
 use Rattle.td_stream.specs.StreamInvariant.{Later, Looked}
-use Rattle.td_stream.specs.declared.stream.Stream.{Stream}
 use Rattle.td_stream.proofs.Places.{look_more}
 use Rattle.td_stream.proofs.Stages.{carried}
 use Rattle.td_ir.specs.State.{Way, Exit, at_once, after}

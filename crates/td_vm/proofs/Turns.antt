@@ -3,18 +3,14 @@ use Rattle.std.proofs.Common.{◌≡◌, ℕ, zero, suc, ◌+◌, ◌-◌, ◌*�
 use Rattle.std.specs.Prelude.{slice_range, slice_index, slice_set, replicate, nat_eq}
 use Rattle.std.proofs.Math.Seq.{drop-cons, take-suc-set}
 use Rattle.td_num.specs.Numbers.{places_from}
-use Rattle.td_core.specs.declared.outcome.Reason.{Reason}
-use Rattle.td_core.specs.declared.outcome.TraceFrame.{TraceFrame}
-use Rattle.td_ir.specs.declared.tables.Parts.{Parts}
+use Rattle.td_vm.specs.Imports.{Reason, TraceFrame, Parts, Instr, Call, TraceRoom, CodeView, Level, BlockExit, Slate}
 use Rattle.td_ir.specs.declared.tables.Routine.{Routine}
-use Rattle.td_ir.specs.declared.instructions.Instr.{Instr}
 use Rattle.td_ir.specs.declared.instructions.Instr.TheVariants as instr
 use Rattle.td_ir.specs.Tables.{routine_of, cells_by, instruction_of, lengths_of, first_of, end_of as end_at}
 use Rattle.td_ir.specs.State.{State, left, registers_from, Exit, after}
 use Rattle.td_ir.specs.State as ir
 use Rattle.td_ir.specs.Run.{places_by, entered, again, turns}
 use Rattle.td_ir.proofs.Begins.{begin_next, begin_up}
-use Rattle.td_verify.specs.declared.shape.Shape.TheVariants.{Call}
 use Rattle.td_verify.specs.Shape.{shape, shapes_of}
 use Rattle.td_verify.specs.Operands.{HasRegisters, HasTables, callee_params}
 use Rattle.td_verify.specs.Rules.{CallsWell}
@@ -22,10 +18,6 @@ use Rattle.td_verify.specs.Brackets.{shape_at, in_loop}
 use Rattle.td_verify.specs.Ways.{MayBeEmpty}
 use Rattle.td_verify.specs.Verify.{IsIn, depths}
 use Rattle.td_verify.specs.Safe.{IsSafe, looped}
-use Rattle.td_vm_step.specs.declared.activation.TraceRoom.{TraceRoom}
-use Rattle.td_vm_step.specs.declared.activation.CodeView.{CodeView}
-use Rattle.td_vm_step.specs.declared.activation.Level.{Level}
-use Rattle.td_vm_step.specs.declared.activation.BlockExit.{BlockExit}
 use Rattle.td_vm_step.specs.declared.activation.BlockExit.TheVariants.{Returned, Turned, Failed}
 use Rattle.td_vm.specs.Exits.{frames_of, exit_by, way_of, call_way, WhenTurned, WhenReturned, NotTurned, Traced}
 use Rattle.td_vm.specs.Need.{registers, cells, level}
@@ -33,7 +25,6 @@ use Rattle.td_verify_runs.specs.Stretches.{Idle, IsRunnable, IdleReturn}
 use Rattle.td_vm.specs.Machine.{HasRoom, HasEntryRoom, IsCallee, IsKept, AreRoomy}
 use Rattle.td_vm.specs.declared.level.Spare.{Spare}
 use Rattle.td_stream.specs.Copies.{rooms_of}
-use Rattle.td_vm_step.specs.declared.slate.Slate.{Slate}
 use Rattle.td_vm_step.specs.Stepping.{HasPlaces, IsLent}
 use Rattle.td_vm.proofs.Calls.{callee_need}
 use Rattle.td_vm.proofs.Places.{callee_places, entry_places, own_snoc}

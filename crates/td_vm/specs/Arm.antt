@@ -1,6 +1,6 @@
 -- What a chain of calls takes; of use in this crate alone.
 use Rattle.std.specs.Prelude.{ℕ}
-use Rattle.td_ir.specs.declared.tables.Parts.{Parts}
+use Rattle.td_vm.specs.Imports.{Parts}
 use Rattle.td_vm.specs.Need.{registers, cells, level}
 use Rattle.td_vm.specs.declared.arm.NeedKind.{NeedKind}
 use Rattle.td_vm.specs.declared.arm.NeedKind.TheVariants.{Registers, Cells, Levels}

@@ -1,11 +1,7 @@
 -- How the machine leaves a stretch of code, as an exit of run; of use in this crate alone.
 use Rattle.std.specs.Prelude.{◌≡◌, ℕ, ◌≤◌, List, take, length}
-use Rattle.td_core.specs.declared.outcome.TraceFrame.{TraceFrame}
-use Rattle.td_core.specs.declared.outcome.Verdict.{Verdict}
-use Rattle.td_core.specs.declared.outcome.Verdict.TheVariants.{Accept, Reject}
+use Rattle.td_vm.specs.Imports.{TraceFrame, Verdict, Accept, Reject, TraceRoom, BlockExit}
 use Rattle.td_ir.specs.State.{State, Way, Returned, Turned, Failed, Stuck, Exit, after}
-use Rattle.td_vm_step.specs.declared.activation.TraceRoom.{TraceRoom}
-use Rattle.td_vm_step.specs.declared.activation.BlockExit.{BlockExit}
 use Rattle.td_vm_step.specs.declared.activation.BlockExit.TheVariants as exit
 
 abbrev pub frames_of : TraceRoom → List TraceFrame

@@ -1,10 +1,7 @@
 -- What a frame has room for (own rule).
 use Rattle.std.specs.Prelude.{◌≡◌, ℕ, ◌+◌, ◌≤◌, List, length, map, take, drop, slice_index}
-use Rattle.td_core.specs.declared.outcome.Outcome.{Outcome}
-use Rattle.td_core.specs.declared.outcome.TraceFrame.{TraceFrame}
-use Rattle.td_core.specs.declared.outcome.Verdict.{Verdict}
+use Rattle.td_vm.specs.Imports.{Outcome, TraceFrame, Verdict, Parts}
 use Rattle.td_stream.specs.Copies.{BufferView, held_by, rooms_of, empty_with}
-use Rattle.td_ir.specs.declared.tables.Parts.{Parts}
 use Rattle.td_ir.specs.Tables.{first_of}
 use Rattle.td_vm.specs.Need.{most_need, most_entry_cells, most_buffers, most_rooms, registers, cells, level}
 

@@ -1,3 +1,4 @@
+pub mod Imports
 pub mod Need
 pub mod Frames
 pub mod Exits

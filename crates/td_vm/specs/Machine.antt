@@ -1,18 +1,13 @@
 -- What the machine rests on, and what its calls keep; of use in this crate alone.
 use Rattle.std.specs.Prelude.{◌≡◌, ℕ, ◌+◌, ◌<◌, ◌≤◌, List, length, slice_index}
-use Rattle.td_ir.specs.declared.tables.Parts.{Parts}
+use Rattle.td_vm.specs.Imports.{Parts, Call, TraceRoom, CodeView, Level, Slate}
 use Rattle.td_ir.specs.Tables.{routine_of}
 use Rattle.td_ir.specs.RunLaws.{RunGoes, RunFails, RunReturns, RunTurns, RunCalls, RunLoops}
-use Rattle.td_verify.specs.declared.shape.Shape.TheVariants.{Call}
 use Rattle.td_verify.specs.Shape.{shapes_of}
 use Rattle.td_verify.specs.Brackets.{shape_at}
 use Rattle.td_verify.specs.Operands.{IsCellMap}
 use Rattle.td_verify.specs.Verify.{IsIn}
-use Rattle.td_vm_step.specs.declared.activation.TraceRoom.{TraceRoom}
 use Rattle.td_stream.specs.Copies.{rooms_of}
-use Rattle.td_vm_step.specs.declared.activation.CodeView.{CodeView}
-use Rattle.td_vm_step.specs.declared.activation.Level.{Level}
-use Rattle.td_vm_step.specs.declared.slate.Slate.{Slate}
 use Rattle.td_vm_step.specs.Stepping.{HasPlaces}
 use Rattle.td_verify_runs.specs.Stretches.{IsRunnable}
 use Rattle.td_vm.specs.declared.level.Spare.{Spare}

@@ -1,10 +1,8 @@
 -- The room that a routine needs with its calls: the greatest over the chains of calls that begin at it (own rule).
 use Rattle.std.specs.Prelude.{ℕ, zero, suc, ◌+◌, ◌*◌, max, cond, nat_eq, List, length, map, slice_index}
 use Rattle.td_num.specs.Numbers.{places_from}
-use Rattle.td_ir.specs.declared.tables.Parts.{Parts}
+use Rattle.td_vm.specs.Imports.{Parts, Shape, Call}
 use Rattle.td_ir.specs.Tables.{routine_of, entry_of, lengths_of, begin}
-use Rattle.td_verify.specs.declared.shape.Shape.{Shape}
-use Rattle.td_verify.specs.declared.shape.Shape.TheVariants.{Call}
 use Rattle.td_verify.specs.Shape.{shapes_of}
 use Rattle.td_verify.specs.Brackets.{shape_at}
 

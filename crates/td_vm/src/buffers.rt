@@ -7,7 +7,7 @@ use std::alloc::{AllocError, Global};
 use td_stream::copies::Buffer;
 
 /// An empty buffer for each room, in a list that has memory for just these. `AllocError`: there was no memory for them.
-pub fn buffers_for(alloc: Global, rooms: &[u32]) -> Result<Vec<Buffer>, AllocError>
+pub(crate) fn buffers_for(alloc: Global, rooms: &[u32]) -> Result<Vec<Buffer>, AllocError>
     ensures buffers { IfOk result (λ buffers. buffers.items ≡ map empty_with rooms.now) }
     ensures memory { IfOk result (λ buffers. vec_capacity buffers ≡ length rooms.now) }
 {
@@ -19,7 +19,7 @@ pub fn buffers_for(alloc: Global, rooms: &[u32]) -> Result<Vec<Buffer>, AllocErr
 }
 
 /// No buffer holds a byte any more. The rooms stay.
-pub fn empty_all(buffers: &mut [Buffer])
+pub(crate) fn empty_all(buffers: &mut [Buffer])
     ensures { buffers.new ≡ map empty_with (rooms_of buffers.old) }
 {
     for k in 0..buffers.len() {

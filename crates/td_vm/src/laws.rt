@@ -1,8 +1,7 @@
 //! Laws of room and of steps. They do nothing when they are called.
 
 ghost use Rattle.std.specs.Prelude.{ℕ, ◌≤◌, List, length};
-ghost use Rattle.td_core.specs.declared.module.Entry.{Entry};
-ghost use Rattle.td_ir.specs.declared.tables.Parts.{Parts};
+ghost use Rattle.td_vm.specs.Imports.{Entry, Parts};
 ghost use Rattle.td_ir.specs.Entries.{Fits};
 ghost use Rattle.td_verify_runs.specs.Laws.{RunIsBounded};
 ghost use Rattle.td_vm.specs.Need.{most_entry_cells};

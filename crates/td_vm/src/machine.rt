@@ -6,7 +6,7 @@ ghost use Rattle.td_ir.specs.WellFormed.{IsCode};
 ghost use Rattle.td_ir.specs.Tables.{routine_of, map_of, lengths_of, first_of, buffer_cells, own_cells, cells_by};
 ghost use Rattle.td_ir.specs.State.{State, Exit, registers_from};
 ghost use Rattle.td_ir.specs.Run.{place_of_site, places_by, entered, turns, block};
-ghost use Rattle.td_verify.specs.declared.shape.Shape.TheVariants.{While};
+ghost use Rattle.td_vm.specs.Imports.{While};
 ghost use Rattle.td_verify.specs.Shape.{shapes_of};
 ghost use Rattle.td_verify.specs.Brackets.{shape_at};
 ghost use Rattle.td_verify.specs.Ways.{MayBeEmpty};
@@ -74,7 +74,7 @@ fn arguments(regs: &[u64], first: usize, count: usize) -> &[u64]
 }
 
 /// How many places a routine has: one for each cell, two for each buffer.
-pub fn place_count(routine: &Routine) -> usize
+pub(crate) fn place_count(routine: &Routine) -> usize
     requires { length routine.now.buffers < 2 ^ 16 }
     ensures is { result ≡ routine.now.cells + 2 * length routine.now.buffers }
     ensures small { result ≤ 196605 }
@@ -83,7 +83,7 @@ pub fn place_count(routine: &Routine) -> usize
 }
 
 /// The registers of a routine that begins: its arguments, and zeros.
-pub fn set_registers(mine: &mut [u64], args: &[u64])
+pub(crate) fn set_registers(mine: &mut [u64], args: &[u64])
     requires { length args.now ≤ length mine.old }
     ensures { mine.new ≡ args.now ++ replicate (length mine.old - length args.now) 0 }
 {

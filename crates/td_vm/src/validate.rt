@@ -228,6 +228,18 @@ impl Frame {
     /// each, a frame for each level of the deepest, the cells of the entry point that has most, and buffers for copies, place by
     /// place as large as any entry point's. It has no cells, an empty trace and empty buffers. `AllocError`: there was no memory for
     /// it.
+    ///
+    /// Frames for two threads that validate by the same code:
+    ///
+    /// ```
+    /// use std::alloc::{AllocError, Global};
+    /// use td_verify::Verified;
+    /// use td_vm::Frame;
+    ///
+    /// fn for_two(alloc: Global, code: &Verified) -> Result<(Frame, Frame), AllocError> {
+    ///     Ok((Frame::arm(alloc, code)?, Frame::arm(alloc, code)?))
+    /// }
+    /// ```
     pub fn arm(alloc: Global, code: &Verified) -> Result<Frame, AllocError>
         ensures armed { IfOk result (λ frame. IsArmed code.now frame) }
         ensures cells { IfOk result (λ frame. frame.cells ≡ []) }
@@ -258,6 +270,27 @@ impl Frame {
     }
 
     /// The cells with which the next validation begins, no more than some entry point of the code has. Takes no memory.
+    ///
+    /// A frame whose cells begin so, or none where they don't fit:
+    ///
+    /// ```
+    /// use std::alloc::{AllocError, Global};
+    /// use td_core::Entry;
+    /// use td_ir::fits;
+    /// use td_verify::Verified;
+    /// use td_vm::Frame;
+    /// use td_vm::laws::fitting_cells_have_room;
+    ///
+    /// fn begun(alloc: Global, code: &Verified, entry: Entry, args: &[u64], cells: &[u64]) -> Result<Option<Frame>, AllocError> {
+    ///     if !fits(code.code(), entry, args, cells) {
+    ///         return Ok(None);
+    ///     }
+    ///     fitting_cells_have_room();
+    ///     let mut frame = Frame::arm(alloc, code)?;
+    ///     frame.set_cells(cells);
+    ///     Ok(Some(frame))
+    /// }
+    /// ```
     pub fn set_cells(&mut self, values: &[u64])
         requires { size_of values.now ≤ self.old.cell_room }
         ensures cells { self.new.cells ≡ values.now }
@@ -270,6 +303,16 @@ impl Frame {
     }
 
     /// The cells as they were set, or as the last validation left them.
+    ///
+    /// The first number that a message delivered; none where the entry point has no cells:
+    ///
+    /// ```
+    /// use td_vm::Frame;
+    ///
+    /// fn first_cell(frame: &Frame) -> Option<u64> {
+    ///     frame.cells().first().copied()
+    /// }
+    /// ```
     pub fn cells(&self) -> &[u64]
         ensures { result.now ≡ self.now.cells }
     {
@@ -278,6 +321,16 @@ impl Frame {
 
     /// The frames of the last validation's failure, the innermost first; none where it accepted. There are no more than the
     /// frame has room for.
+    ///
+    /// The byte at which the innermost field that failed began; none where the message was accepted:
+    ///
+    /// ```
+    /// use td_vm::Frame;
+    ///
+    /// fn failed_at(frame: &Frame) -> Option<u32> {
+    ///     Some(frame.trace().first()?.start)
+    /// }
+    /// ```
     pub fn trace(&self) -> &[TraceFrame]
         ensures frames { result.now ≡ self.now.trace }
         ensures room { size_of result.now ≤ self.now.trace_room }
@@ -293,6 +346,16 @@ impl Frame {
     }
 
     /// What was copied to the buffers: those of the last validation's entry point are the first ones, as many as it has.
+    ///
+    /// The bytes of the first copy buffer; none where no entry point of the code has one:
+    ///
+    /// ```
+    /// use td_vm::Frame;
+    ///
+    /// fn first_copy(frame: &Frame) -> Option<&[u8]> {
+    ///     Some(frame.copies().first()?.as_slice())
+    /// }
+    /// ```
     pub fn copies(&self) -> &[Buffer]
         ensures { result.now ≡ self.now.copies }
     {
@@ -301,6 +364,23 @@ impl Frame {
 
     /// The outcome of the last validation, which was by this code from this entry point and had this verdict: with the frame's trace
     /// and cells, and what the entry point's buffers hold. Takes no memory.
+    ///
+    /// A single validation, and all that came of it:
+    ///
+    /// ```
+    /// use std::alloc::{AllocError, Global};
+    /// use td_core::{Entry, Outcome};
+    /// use td_run::validate_compiled;
+    /// use td_stream::{Layout, Words};
+    /// use td_verify::Verified;
+    /// use td_vm::Frame;
+    ///
+    /// fn outcome<W: Words>(alloc: Global, code: &Verified, entry: Entry, length: u32, words: &mut W) -> Result<Outcome, AllocError> {
+    ///     let mut frame = Frame::arm(alloc, code)?;
+    ///     let verdict = validate_compiled(code, entry, &[], &Layout::plain(length), &mut frame, words);
+    ///     Ok(frame.into_outcome(code, entry, verdict))
+    /// }
+    /// ```
     pub fn into_outcome(self, code: &Verified, entry: Entry, verdict: Verdict) -> Outcome
         requires armed { IsArmed code.now self }
         requires there { entry.number < size_of code.now.entries }

@@ -2,13 +2,9 @@
 use Rattle.std.proofs.Common.{◌≡◌, ℕ, zero, suc, ◌+◌, ◌<◌, ◌≤◌, Bool, false, List, [], ◌∷◌, ◌++◌, length, refl, sym, ap, ◌∙◌, arith, inl, inr, Option, None}
 use Rattle.std.specs.Prelude.{slice_get}
 use Rattle.std.proofs.lemmas.Bool.{eq-eqb, ne_eqb, cases_eq}
-use Rattle.td_num.specs.declared.number.NumberType.{NumberType}
+use Rattle.td_write.specs.Imports.{NumberType, Field, TypeDef, Impossible, Shape, Broken}
 use Rattle.td_core.specs.declared.module.NameId.{NameId}
-use Rattle.td_core.specs.declared.module.Field.{Field}
-use Rattle.td_core.specs.declared.module.TypeDef.{TypeDef}
-use Rattle.td_core.specs.declared.outcome.Reason.TheVariants.{Impossible}
 use Rattle.td_meaning.specs.Meaning.{pick, extended}
-use Rattle.td_write_values.specs.declared.error.WriteRule.TheVariants.{Shape, Broken}
 use Rattle.td_write_values.specs.Datum.{Datum, Sequence, data_of, list_of}
 use Rattle.td_write_values.specs.Bytes.{unit_type}
 use Rattle.td_write_values.specs.Spelling.{number_in}

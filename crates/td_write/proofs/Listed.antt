@@ -4,9 +4,7 @@ use Rattle.std.specs.Prelude.{nat_le}
 use Rattle.std.proofs.Math.Seq.{take-append_seam}
 use Rattle.std.proofs.lemmas.List.{append-nil}
 use Rattle.td_num.specs.Numbers.{bytes_in}
-use Rattle.td_num.specs.declared.number.NumberType.{NumberType}
-use Rattle.td_core.specs.declared.outcome.Reason.TheVariants.{Constraint}
-use Rattle.td_write_values.specs.declared.error.WriteRule.TheVariants.{Shape, Broken}
+use Rattle.td_write.specs.Imports.{NumberType, Constraint, Shape, Broken}
 use Rattle.td_write_values.specs.Datum.{Datum, Sequence, data_of}
 use Rattle.td_write_values.specs.Spelling.{ends_in_zero}
 use Rattle.td_write_values.specs.Writing.{Done, Refused, after_writing, followed, wanted, items_written, number_written, up_to_zero_written}

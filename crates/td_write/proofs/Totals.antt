@@ -2,8 +2,7 @@
 use Rattle.std.proofs.Common.{◌≡◌, ℕ, suc, ◌+◌, ◌-◌, Bool, true, false, List, [], ◌∷◌, ◌++◌, length, refl, sym, ap, ◌∙◌, arith, append_assoc, length-append, Option}
 use Rattle.std.proofs.lemmas.List.{append-nil}
 use Rattle.td_core.specs.declared.module.CopyOut.{CopyOut}
-use Rattle.td_write_values.specs.declared.error.WriteRule.{WriteRule}
-use Rattle.td_write_values.specs.declared.error.WriteRule.TheVariants.{Size}
+use Rattle.td_write.specs.Imports.{WriteRule, Size}
 use Rattle.td_write_values.specs.Datum.{Datum}
 use Rattle.td_write.specs.declared.halt.Halt.{Halt}
 use Rattle.td_write.specs.declared.halt.Halt.TheVariants as halt

@@ -3,21 +3,12 @@ use Rattle.std.proofs.Common.{◌≡◌, ℕ, zero, suc, ◌≤◌, ◌<◌, Lis
 use Rattle.std.specs.Prelude.{slice_get}
 use Rattle.std.proofs.lemmas.Option.{none-some}
 use Rattle.td_num.specs.Numbers.{places_from}
-use Rattle.td_core.specs.declared.module.Module.{Module}
-use Rattle.td_core.specs.declared.module.Entry.{Entry}
-use Rattle.td_core.specs.declared.module.TypeDef.{TypeDef}
-use Rattle.td_core.specs.declared.outcome.Reason.{Reason}
-use Rattle.td_core.specs.declared.outcome.Reason.TheVariants.{Impossible}
-use Rattle.td_core.specs.declared.outcome.Outcome.{Outcome}
-use Rattle.td_core.specs.declared.outcome.Verdict.TheVariants.{Accept}
+use Rattle.td_write.specs.Imports.{Module, Entry, TypeDef, Reason, Impossible, Outcome, Accept, WriteRule, Shape, Range, Broken, Size, Long, WriteError}
 use Rattle.td_core.specs.Outcome.{Ending, Accepted, Rejected, outcome_of, copies_by}
 use Rattle.td_core.specs.Entries.{entry_definition, definition_at}
 use Rattle.td_core.specs.Formed.{AllFit, params_at, cells_at}
 use Rattle.td_meaning.specs.Meaning.{meaning, entry_place}
 use Rattle.td_meaning.specs.Copies.{opened, outcome}
-use Rattle.td_write_values.specs.declared.error.WriteRule.{WriteRule}
-use Rattle.td_write_values.specs.declared.error.WriteRule.TheVariants.{Shape, Range, Broken, Size, Long}
-use Rattle.td_write_values.specs.declared.error.WriteError.{WriteError}
 use Rattle.td_write_values.specs.declared.error.WriteError.TheVariants as error
 use Rattle.td_write_values.specs.declared.limits.TheConstants.{MOST_WRITTEN}
 use Rattle.td_write_values.specs.Datum.{Datum}

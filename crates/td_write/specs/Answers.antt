@@ -1,16 +1,12 @@
 -- What the writer answers (own rule).
 use Rattle.std.specs.Prelude.{◌≡◌, ◌≤◌, List, ℕ, ◌++◌, length, [], Some, None}
-use Rattle.td_core.specs.declared.module.Module.{Module}
-use Rattle.td_core.specs.declared.module.Entry.{Entry}
-use Rattle.td_core.specs.declared.outcome.Outcome.{Outcome}
-use Rattle.td_core.specs.declared.outcome.Verdict.TheVariants.{Accept}
+use Rattle.td_write.specs.Imports.{Module, Entry, Outcome, Accept, WriteError}
 use Rattle.td_core.specs.Formed.{IsModuleFormed}
 use Rattle.td_core.specs.Copies.{IsCopying}
 use Rattle.td_kinds.specs.KindRules.{kind_faults}
 use Rattle.td_arith.specs.SafeModule.{module_unsafe}
 use Rattle.td_meaning.specs.Copies.{opened, outcome}
 use Rattle.td_write_values.specs.declared.error.WriteRule.TheVariants as rule
-use Rattle.td_write_values.specs.declared.error.WriteError.{WriteError}
 use Rattle.td_write_values.specs.declared.error.WriteError.TheVariants.{Shape, Range, Broken, Size, Long, NoMemory}
 use Rattle.td_write_values.specs.declared.limits.TheConstants.{MOST_WRITTEN}
 use Rattle.td_write_values.specs.Datum.{Datum}

@@ -1,6 +1,6 @@
 -- What a step of the writer does to what was written; of use below the writer alone.
 use Rattle.std.specs.Prelude.{◌≡◌, ◌≤◌, ℕ, List, length}
-use Rattle.td_core.specs.declared.module.Module.{Module}
+use Rattle.td_write.specs.Imports.{Module}
 use Rattle.td_core.specs.Outcome.{Ending}
 use Rattle.td_write_values.specs.declared.limits.TheConstants.{MOST_WRITTEN}
 use Rattle.td_write_values.specs.Datum.{Datum, Number, Sequence, Bytes, Empty}

@@ -40,6 +40,7 @@ pub fn shape(
         Extent::Once => one_element(walk, element, value, env, cells, draft),
         Extent::Filling { size, step } => {
             let size = value_of(size, env);
+            // By `match`: see `Halt`.
             match contents(walk, element, value, env, cells, draft) {
                 Ok(_) => {}
                 Err(halt) => return Err(halt),

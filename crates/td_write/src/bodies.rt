@@ -16,7 +16,7 @@ use td_write_values::value::Value;
 
 /// The fields of a struct, or of the case that is chosen, where there are as many values as they have and `where` is met. Takes no
 /// memory.
-pub fn written_fields<'a>(
+pub(crate) fn written_fields<'a>(
     definition: &'a TypeDef,
     values: &[Value],
     args: &[u64],

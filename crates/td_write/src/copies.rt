@@ -1,7 +1,7 @@
 //! Copies of what was written.
 
 ghost use Rattle.std.specs.Prelude.{◌≡◌, ◌≤◌, [], IfOk, length, take, drop};
-ghost use Rattle.td_core.specs.declared.outcome.Verdict.TheVariants.{Accept};
+ghost use Rattle.td_write.specs.Imports.{Accept};
 ghost use Rattle.td_core.specs.Outcome.{copies_by};
 ghost use Rattle.td_write_values.specs.Writing.{noted};
 ghost use Rattle.td_write_values.specs.declared.limits.TheConstants.{MOST_WRITTEN};
@@ -14,7 +14,7 @@ use td_meaning_plain::copies::copies_by;
 use td_num::items::Items;
 
 /// Where a field is copied, notes the place and the number of its bytes.
-pub fn note_copy(
+pub(crate) fn note_copy(
     copy: &Option<CopyOut>,
     places: &[usize],
     start: usize,
@@ -31,7 +31,7 @@ pub fn note_copy(
 
 /// How what was written is accepted, by all cells, of which the first ones are the entry point's. `AllocError`: out of
 /// memory.
-pub fn accepted_with(
+pub(crate) fn accepted_with(
     alloc: Global,
     written: &[u8],
     mut cells: Vec<u64>,

@@ -33,6 +33,7 @@ pub fn one_element(
     ensures err { IfErr result (λ h. Halts h draft.new.path.items
         (element_written in_machine walk.now.m.now.listed (below walk.now.m.now walk.now.bound) element.now env.now walk.now.places.now draft.old.path.items (length draft.old.out.items) cells.old value.now)) }
 {
+    // By `match`: see `Halt`.
     match element_bytes(walk, element, value, env, cells, draft) {
         Ok(_) => {}
         Err(halt) => return Err(halt),
@@ -45,7 +46,7 @@ pub fn one_element(
 
 /// An element's bytes, whatever its enum says.
 #[cycle(types)]
-pub fn element_bytes(
+pub(crate) fn element_bytes(
     walk: &Walk<'_, '_>,
     element: &Element,
     value: &Value,

@@ -38,6 +38,7 @@ pub fn counted(
     let mut env = Vec::from_slice(walk.alloc, args)?;
     let mut index = 0;
     for field in fields {
+        // By `match`: see `Halt`.
         match one_field(
             walk,
             ty,

@@ -79,7 +79,7 @@ pub fn write_bytes(value: &Value, out: &mut Vec<u8>) -> Result<(), Halt>
 }
 
 /// As many zeros as the number says.
-pub fn write_zeros(value: &Value, out: &mut Vec<u8>) -> Result<(), Halt>
+pub(crate) fn write_zeros(value: &Value, out: &mut Vec<u8>) -> Result<(), Halt>
     requires { length out.old.items ≤ MOST_WRITTEN }
     ensures ok { IfOk result (λ _. (path cells : List ℕ)
         → after_writing out.old.items (zeros_written path (length out.old.items) cells value.now)
@@ -95,7 +95,7 @@ pub fn write_zeros(value: &Value, out: &mut Vec<u8>) -> Result<(), Halt>
 }
 
 /// No bytes. Takes no memory.
-pub fn write_unit(value: &Value) -> Result<(), Halt>
+pub(crate) fn write_unit(value: &Value) -> Result<(), Halt>
     ensures ok { IfOk result (λ _. (path cells : List ℕ) → unit_written path cells value.now ≡ Done [] cells) }
     ensures err { IfErr result (λ h. (path cells : List ℕ) → Halts h path
         (unit_written path cells value.now)) }
@@ -150,6 +150,7 @@ fn write_numbers(
     for (index, value) in values.iter().enumerate() {
         path.push(index)?;
         let start = out.len();
+        // By `match`: see `Halt`.
         match write_number(number_type, value, out) {
             Ok(()) => {}
             Err(halt) => return Err(halt),
@@ -200,7 +201,7 @@ fn write_up_to_zero(
 }
 
 /// The same of an element. Only numbers stand so.
-pub fn write_zero_ended(
+pub(crate) fn write_zero_ended(
     element: &Element,
     size: u64,
     value: &Value,

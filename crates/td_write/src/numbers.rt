@@ -45,7 +45,7 @@ pub fn fits(number_type: NumberType, bits: Option<Bits>, number: u64) -> bool
 }
 
 /// The type of a number, or of a unit, that stands once.
-pub fn unit_type(element: &Element, extent: &Extent) -> Option<NumberType>
+pub(crate) fn unit_type(element: &Element, extent: &Extent) -> Option<NumberType>
     ensures { result ≡ unit_type element.now extent.now }
 {
     match element {
@@ -132,7 +132,7 @@ fn are_bits_of(number: u64, parts: &[Part], numbers: &[u64]) -> bool
 }
 
 /// The number of a unit whose parts have these values; none where they don't make one.
-pub fn made_unit(number_type: NumberType, parts: &[Part], numbers: &[u64]) -> Option<u64>
+pub(crate) fn made_unit(number_type: NumberType, parts: &[Part], numbers: &[u64]) -> Option<u64>
     ensures { MatchOption result (makes_unit number_type parts.now numbers.now ≡ false)
         (λ n. (makes_unit number_type parts.now numbers.now ≡ true) × (n ≡ unit_number parts.now numbers.now)) }
 {
@@ -192,7 +192,7 @@ fn value_count(field: &Field) -> usize
 }
 
 /// Whether fields have so many values.
-pub fn is_count(fields: &[Field], count: usize) -> bool
+pub(crate) fn is_count(fields: &[Field], count: usize) -> bool
     ensures { result ≡ nat_eq count (values_count fields.now) }
 {
     let mut left = count;

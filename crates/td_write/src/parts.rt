@@ -33,7 +33,7 @@ pub struct FieldBytes {
 }
 
 /// The refinement and the action of a field that isn't a unit, each of its parts in scope with the number.
-pub fn test_parts(
+pub(crate) fn test_parts(
     walk: &Walk<'_, '_>,
     ty: NameId,
     parts: &[Part],

@@ -1,7 +1,7 @@
 //! Units of bit fields.
 
 ghost use Rattle.std.specs.Prelude.{◌≡◌, ◌+◌, ◌≤◌, ◌++◌, ◌∷◌, [], ℕ, List, length, drop, IfOk, IfErr};
-ghost use Rattle.td_core.specs.declared.module.Part.{Part};
+ghost use Rattle.td_write.specs.Imports.{Part};
 ghost use Rattle.td_write_values.specs.Datum.{Datum};
 ghost use Rattle.td_write_values.specs.Writing.{Written, Later, parts_written, unit_then, in_machine};
 ghost use Rattle.td_write_values.specs.declared.limits.TheConstants.{MOST_WRITTEN};
@@ -51,6 +51,7 @@ pub fn one_part(
     }
     let value = &values[index];
     path.push(index)?;
+    // By `match`: see `Halt`.
     let number = match number_of(value) {
         Ok(number) => number,
         Err(halt) => return Err(halt),
@@ -73,7 +74,7 @@ pub fn one_part(
 }
 
 /// A unit of bit fields, or a number.
-pub fn one_unit(
+pub(crate) fn one_unit(
     number_type: NumberType,
     field: &Field,
     left: &Left<'_>,

@@ -2,20 +2,11 @@
 use Rattle.std.proofs.Common.{◌≡◌, ℕ, zero, suc, ◌+◌, ◌-◌, ◌<◌, false, ◌&&◌, ◌||◌, List, [], ◌∷◌, ◌++◌, length, refl, sym, ap, ◌∙◌, arith, Option, Some, None, slice_get}
 use Rattle.std.specs.Prelude.{nat_eq, not}
 use Rattle.std.proofs.lemmas.Option.{none-some}
-use Rattle.td_core.specs.declared.kind.Kind.{Kind}
-use Rattle.td_core.specs.declared.module.Element.{Element}
+use Rattle.td_write_spells.specs.Imports.{Kind, Element, Extent, Once, Filling, OnceFilling, UpToZero, Field, Case, Body, Struct, Casetype, TypeDef, ZeroElement, RestNotLast}
 use Rattle.td_core.specs.declared.module.Element.TheVariants as element
-use Rattle.td_core.specs.declared.module.Extent.{Extent}
-use Rattle.td_core.specs.declared.module.Extent.TheVariants.{Once, Filling, OnceFilling, UpToZero}
-use Rattle.td_core.specs.declared.module.Field.{Field}
-use Rattle.td_core.specs.declared.module.Case.{Case}
-use Rattle.td_core.specs.declared.module.Body.{Body}
-use Rattle.td_core.specs.declared.module.Body.TheVariants.{Struct, Casetype}
-use Rattle.td_core.specs.declared.module.TypeDef.{TypeDef}
 use Rattle.td_core.specs.Formed.{Bound, IsElementFormed, AreFieldsFormed, AreCasesFormed, IsDefaultFormed, IsBodyFormed, parts_scope, param_bounds, own_bounds}
 use Rattle.td_kinds.specs.Kinds.{element_kind, field_kind, kinds_below}
 use Rattle.td_kinds.specs.KindRules.{is_filled, fault_if, is_empty, fields_faults, cases_faults, default_faults, body_faults, kinds_of}
-use Rattle.td_kinds.specs.declared.error.KindFault.TheVariants.{ZeroElement, RestNotLast}
 use Rattle.td_kinds.proofs.Listing.{below_more}
 use Rattle.td_kinds.proofs.Faultless.{faults_at}
 use Rattle.td_write_spells.specs.Laws.{KindsAreAdmitted}

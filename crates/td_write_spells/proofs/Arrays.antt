@@ -4,16 +4,10 @@ use Rattle.std.proofs.lemmas.Bool.{leb-true, leb-false, ne_eqb, false≢true}
 use Rattle.std.proofs.lemmas.Option.{same_Some}
 use Rattle.std.proofs.lemmas.List.{length-replicate}
 use Rattle.td_num.specs.Numbers.{bytes_in}
-use Rattle.td_num.specs.declared.number.Width.{Width}
-use Rattle.td_num.specs.declared.number.Width.TheVariants.{One, Two, Four, Eight}
-use Rattle.td_num.specs.declared.number.ByteOrder.{ByteOrder}
-use Rattle.td_num.specs.declared.number.ByteOrder.TheVariants.{LittleEndian, BigEndian}
-use Rattle.td_num.specs.declared.number.NumberType.{NumberType}
-use Rattle.td_core.specs.declared.outcome.Reason.TheVariants.{Constraint}
+use Rattle.td_write_spells.specs.Imports.{Width, One, Two, Four, Eight, ByteOrder, LittleEndian, BigEndian, NumberType, Constraint, Range, Broken, Long}
 use Rattle.td_core.specs.Outcome.{Ending, Accepted, Behavior, accepted, onward, and_then}
 use Rattle.td_meaning.specs.Meaning.{taken, elements, zeros_meaning}
 use Rattle.td_meaning.proofs.Zeros.{zeros_none, zeros_on}
-use Rattle.td_write_values.specs.declared.error.WriteRule.TheVariants.{Range, Broken, Long}
 use Rattle.td_write_values.specs.declared.limits.TheConstants.{MOST_WRITTEN}
 use Rattle.td_write_values.specs.Datum.{Datum, Number, Sequence, Bytes, Empty, list_of}
 use Rattle.td_core.specs.Types.{is_octet}

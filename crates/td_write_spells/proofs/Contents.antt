@@ -4,21 +4,10 @@ use Rattle.std.specs.Prelude.{nat_eq, slice_index, not}
 use Rattle.std.proofs.lemmas.Bool.{eqb-true, eq-eqb, and_parts, false≢true, or_parts}
 use Rattle.std.proofs.lemmas.Option.{none-some, same_Some}
 use Rattle.td_num.specs.Numbers.{bytes_in, number_at, places_from}
-use Rattle.td_num.specs.declared.number.Width.{Width}
-use Rattle.td_num.specs.declared.number.Width.TheVariants.{One, Two, Four, Eight}
-use Rattle.td_num.specs.declared.number.ByteOrder.{ByteOrder}
-use Rattle.td_num.specs.declared.number.NumberType.{NumberType}
+use Rattle.td_write_spells.specs.Imports.{Width, One, Two, Four, Eight, ByteOrder, NumberType, Kind, Element, Extent, Once, Filling, OnceFilling, UpToZero, CopyOut, Part, Field, Constraint, ListSize, ZeroElement, RestNotLast}
 use Rattle.td_num.specs.Lists.{is_among}
-use Rattle.td_core.specs.declared.kind.Kind.{Kind}
-use Rattle.td_core.specs.declared.module.Element.{Element}
 use Rattle.td_core.specs.declared.module.Element.TheVariants as element
-use Rattle.td_core.specs.declared.module.Extent.{Extent}
-use Rattle.td_core.specs.declared.module.Extent.TheVariants.{Once, Filling, OnceFilling, UpToZero}
 use Rattle.td_core.specs.Term.{Term}
-use Rattle.td_core.specs.declared.module.CopyOut.{CopyOut}
-use Rattle.td_core.specs.declared.module.Part.{Part}
-use Rattle.td_core.specs.declared.module.Field.{Field}
-use Rattle.td_core.specs.declared.outcome.Reason.TheVariants.{Constraint, ListSize}
 use Rattle.td_core.specs.Outcome.{Accepted, Behavior, accepted, and_then, after_reading}
 use Rattle.td_core.specs.Types.{is_octet}
 use Rattle.td_core.specs.WellFormed.{OfSome}
@@ -26,7 +15,6 @@ use Rattle.td_core.specs.Copies.{IsCopied}
 use Rattle.td_expr.specs.Same.{constant_of}
 use Rattle.td_kinds.specs.Kinds.{element_kind, sized_kind, field_kind}
 use Rattle.td_kinds.specs.KindRules.{is_filled, fault_if, field_faults}
-use Rattle.td_kinds.specs.declared.error.KindFault.TheVariants.{ZeroElement, RestNotLast}
 use Rattle.td_kinds.proofs.Faultless.{no_fault}
 use Rattle.td_meaning.specs.Doing.{natural_of}
 use Rattle.td_meaning.specs.Meaning.{Sense, values, values_of, taken, demanded, element_meaning, elements, filled, filled_once, divides, equals, shape_meaning, with_copy, copied_meaning, content_meaning, field_number, pick}

@@ -5,18 +5,9 @@ use Rattle.std.proofs.lemmas.Bool.{eqb-false, or_parts}
 use Rattle.std.proofs.lemmas.Option.{none-some, same_Some}
 use Rattle.std.proofs.lemmas.List.{append-nil}
 use Rattle.td_num.specs.Numbers.{places_from}
-use Rattle.td_num.specs.declared.number.NumberType.{NumberType}
+use Rattle.td_write_spells.specs.Imports.{NumberType, Kind, NameId, Part, Field, Case, Body, Struct, Casetype, TypeDef, Reason, Shape, Range, Broken, Size, Long}
 use Rattle.td_num.specs.Lists.{Each}
 use Rattle.td_num.proofs.Lists.{each_at}
-use Rattle.td_core.specs.declared.kind.Kind.{Kind}
-use Rattle.td_core.specs.declared.module.NameId.{NameId}
-use Rattle.td_core.specs.declared.module.Part.{Part}
-use Rattle.td_core.specs.declared.module.Field.{Field}
-use Rattle.td_core.specs.declared.module.Case.{Case}
-use Rattle.td_core.specs.declared.module.Body.{Body}
-use Rattle.td_core.specs.declared.module.Body.TheVariants.{Struct, Casetype}
-use Rattle.td_core.specs.declared.module.TypeDef.{TypeDef}
-use Rattle.td_core.specs.declared.outcome.Reason.{Reason}
 use Rattle.td_core.specs.Outcome.{Ending, Accepted, and_then, within, ending_within}
 use Rattle.td_core.specs.WellFormed.{OfSome, EachField}
 use Rattle.td_core.specs.Copies.{IsFieldCopying, IsDefinitionCopying}
@@ -24,7 +15,6 @@ use Rattle.td_kinds.specs.Kinds.{fields_kind, default_kind, spanned, spanned_wit
 use Rattle.td_kinds.specs.KindRules.{fields_faults, cases_faults, default_faults, body_faults}
 use Rattle.td_meaning.specs.Doing.{natural_of}
 use Rattle.td_meaning.specs.Meaning.{Sense, refined, extended, fields_meaning, case_for, where_place, chosen_meaning, body_meaning, definition_meaning, below, pick, entry_place}
-use Rattle.td_write_values.specs.declared.error.WriteRule.TheVariants.{Shape, Range, Broken, Size, Long}
 use Rattle.td_write_values.specs.declared.limits.TheConstants.{MOST_WRITTEN}
 use Rattle.td_write_values.specs.Datum.{Datum, Number, Sequence, Bytes, Empty, list_of}
 use Rattle.td_write_values.specs.Bytes.{number_bytes, fits, unit_type, unit_number, makes_unit}

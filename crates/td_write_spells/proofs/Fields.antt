@@ -3,27 +3,15 @@ use Rattle.std.proofs.Common.{◌≡◌, ℕ, suc, ◌+◌, ◌-◌, ◌<◌, �
 use Rattle.std.proofs.lemmas.Bool.{leb-true, leb-false, and_parts}
 use Rattle.std.proofs.lemmas.Option.{none-some, same_Some}
 use Rattle.td_num.specs.Numbers.{bytes_in}
-use Rattle.td_num.specs.declared.number.NumberType.{NumberType}
+use Rattle.td_write_spells.specs.Imports.{NumberType, Kind, NameId, Element, Extent, Once, Filling, OnceFilling, UpToZero, CopyOut, Part, Field, TypeDef, Reason, WriteRule, Shape, Range, Broken, Size, Long}
 use Rattle.td_num.specs.Lists.{Each}
-use Rattle.td_core.specs.declared.kind.Kind.{Kind}
-use Rattle.td_core.specs.declared.module.NameId.{NameId}
-use Rattle.td_core.specs.declared.module.Element.{Element}
 use Rattle.td_core.specs.declared.module.Element.TheVariants as element
-use Rattle.td_core.specs.declared.module.Extent.{Extent}
-use Rattle.td_core.specs.declared.module.Extent.TheVariants.{Once, Filling, OnceFilling, UpToZero}
-use Rattle.td_core.specs.declared.module.CopyOut.{CopyOut}
-use Rattle.td_core.specs.declared.module.Part.{Part}
-use Rattle.td_core.specs.declared.module.Field.{Field}
-use Rattle.td_core.specs.declared.module.TypeDef.{TypeDef}
-use Rattle.td_core.specs.declared.outcome.Reason.{Reason}
 use Rattle.td_core.specs.Outcome.{Ending, Accepted, Behavior, and_then, ending_within}
 use Rattle.td_core.specs.WellFormed.{OfSome}
 use Rattle.td_core.specs.Copies.{IsCopied, IsCopyWhole, IsFieldCopying}
 use Rattle.td_kinds.specs.Kinds.{field_kind, fields_kind}
 use Rattle.td_kinds.specs.KindRules.{is_empty, field_faults, fields_faults}
 use Rattle.td_meaning.specs.Meaning.{Sense, content_meaning, parts_meaning, extended, field_place, first_name, field_number, fields_meaning}
-use Rattle.td_write_values.specs.declared.error.WriteRule.{WriteRule}
-use Rattle.td_write_values.specs.declared.error.WriteRule.TheVariants.{Shape, Range, Broken, Size, Long}
 use Rattle.td_write_values.specs.declared.limits.TheConstants.{MOST_WRITTEN}
 use Rattle.td_write_values.specs.Datum.{Datum, Number}
 use Rattle.td_write_values.specs.Bytes.{number_bytes, fits, unit_type, unit_number, makes_unit, are_bits_of}

@@ -5,11 +5,7 @@ use Rattle.std.proofs.lemmas.Bool.{leb-true}
 use Rattle.std.proofs.lemmas.Nat.{pow-add}
 use Rattle.std.proofs.Math.Nat.{div-add-mod, div-eq_of_lt, div-one, div-div-eq-div-mul, pow-suc, pow-succ'}
 use Rattle.td_num.specs.Numbers.{bytes_in, byte_of, rising_at, falling_on, ordered_at, number_at}
-use Rattle.td_num.specs.declared.number.Width.{Width}
-use Rattle.td_num.specs.declared.number.Width.TheVariants.{One, Two, Four, Eight}
-use Rattle.td_num.specs.declared.number.ByteOrder.{ByteOrder}
-use Rattle.td_num.specs.declared.number.ByteOrder.TheVariants.{LittleEndian, BigEndian}
-use Rattle.td_num.specs.declared.number.NumberType.{NumberType}
+use Rattle.td_write_spells.specs.Imports.{Width, One, Two, Four, Eight, ByteOrder, LittleEndian, BigEndian, NumberType}
 use Rattle.td_core.specs.Formed.{bits_bound}
 use Rattle.td_write_values.specs.Bytes.{rising_bytes, falling_bytes, ordered_bytes, number_bytes, fits}
 

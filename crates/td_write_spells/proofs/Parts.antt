@@ -5,17 +5,12 @@ use Rattle.std.proofs.lemmas.Bool.{leb-false, eqb-true, and_parts}
 use Rattle.std.proofs.lemmas.Option.{none-some, same_Some}
 use Rattle.std.proofs.lemmas.List.{append-nil}
 use Rattle.td_num.specs.Numbers.{bytes_in}
-use Rattle.td_num.specs.declared.number.NumberType.{NumberType}
+use Rattle.td_write_spells.specs.Imports.{NumberType, NameId, Part, Reason, WriteRule, Shape, Range, Broken, Size, Long}
 use Rattle.td_core.specs.Term.{Term}
-use Rattle.td_core.specs.declared.module.NameId.{NameId}
-use Rattle.td_core.specs.declared.module.Part.{Part}
-use Rattle.td_core.specs.declared.outcome.Reason.{Reason}
 use Rattle.td_core.specs.Outcome.{Ending, Accepted, Rejected, and_then, within, ending_within}
 use Rattle.td_meaning.specs.Meaning.{refined, checked, parts_meaning, bits_of, extended, field_place}
 use Rattle.td_meaning.specs.Throughout.{OnEnding}
 use Rattle.td_meaning.proofs.Staying.{Stays, refined_stays, checked_stays, parts_stay}
-use Rattle.td_write_values.specs.declared.error.WriteRule.{WriteRule}
-use Rattle.td_write_values.specs.declared.error.WriteRule.TheVariants.{Shape, Range, Broken, Size, Long}
 use Rattle.td_write_values.specs.declared.limits.TheConstants.{MOST_WRITTEN}
 use Rattle.td_write_values.specs.Datum.{Datum, Number, Sequence, Bytes, Empty}
 use Rattle.td_write_values.specs.Bytes.{fits, are_bits_of}

@@ -6,16 +6,8 @@ use Rattle.std.proofs.lemmas.Option.{none-some, same_Some}
 use Rattle.std.proofs.lemmas.List.Elements.{All-nil, All-cons, All-append}
 use Rattle.std.proofs.lemmas.Nat.{mod_below}
 use Rattle.td_num.specs.Numbers.{bytes_in, byte_of}
-use Rattle.td_num.specs.declared.number.ByteOrder.{ByteOrder}
-use Rattle.td_num.specs.declared.number.ByteOrder.TheVariants.{LittleEndian, BigEndian}
-use Rattle.td_num.specs.declared.number.NumberType.{NumberType}
-use Rattle.td_core.specs.declared.module.Element.{Element}
+use Rattle.td_write_spells.specs.Imports.{ByteOrder, LittleEndian, BigEndian, NumberType, Element, Extent, Once, Filling, OnceFilling, UpToZero, Part, Field, TypeDef}
 use Rattle.td_core.specs.declared.module.Element.TheVariants as element
-use Rattle.td_core.specs.declared.module.Extent.{Extent}
-use Rattle.td_core.specs.declared.module.Extent.TheVariants.{Once, Filling, OnceFilling, UpToZero}
-use Rattle.td_core.specs.declared.module.Part.{Part}
-use Rattle.td_core.specs.declared.module.Field.{Field}
-use Rattle.td_core.specs.declared.module.TypeDef.{TypeDef}
 use Rattle.td_meaning.specs.Doing.{natural_of}
 use Rattle.td_meaning.specs.Meaning.{values, extended, pick, entry_place}
 use Rattle.td_write_values.specs.Datum.{Datum, Data, Number, Sequence, Bytes, Empty, End, More, list_of}

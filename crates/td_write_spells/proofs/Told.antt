@@ -1,11 +1,8 @@
 -- What writing tells of a value's spelling, and of the meaning of these bytes wherever they stand.
 use Rattle.std.proofs.Common.{◌≡◌, ℕ, ◌+◌, ◌<◌, ◌≤◌, Bool, true, false, List, ◌++◌, length, drop, refl, sym, ap, ◌∙◌, subst, arith, append_assoc, length-append, Option, Some, None}
 use Rattle.std.proofs.lemmas.Option.{none-some, same_Some}
-use Rattle.td_core.specs.declared.module.CopyOut.{CopyOut}
-use Rattle.td_core.specs.declared.outcome.Reason.{Reason}
+use Rattle.td_write_spells.specs.Imports.{CopyOut, Reason, WriteRule, Shape, Range, Broken, Size, Long}
 use Rattle.td_core.specs.Outcome.{Ending, Accepted, Rejected, Behavior, FramePlace, onward, ending_within}
-use Rattle.td_write_values.specs.declared.error.WriteRule.{WriteRule}
-use Rattle.td_write_values.specs.declared.error.WriteRule.TheVariants.{Shape, Range, Broken, Size, Long}
 use Rattle.td_write_values.specs.declared.limits.TheConstants.{MOST_WRITTEN}
 use Rattle.td_write_values.specs.Spelling.{only, joined, sized}
 use Rattle.td_write_values.specs.Writing.{Written, Done, Refused, after_writing, followed, wanted, tested, of_size, unlisted, of_enum, noted, copied}

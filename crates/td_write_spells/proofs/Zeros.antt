@@ -6,13 +6,10 @@ use Rattle.std.proofs.lemmas.Option.{none-some, same_Some}
 use Rattle.std.proofs.lemmas.List.{append-nil}
 use Rattle.std.proofs.Math.Nat.{le-div_iff_mul-le}
 use Rattle.td_num.specs.Numbers.{bytes_in, number_at}
-use Rattle.td_num.specs.declared.number.NumberType.{NumberType}
-use Rattle.td_core.specs.declared.outcome.Reason.{Reason}
-use Rattle.td_core.specs.declared.outcome.Reason.TheVariants.{NotEnough, Constraint}
+use Rattle.td_write_spells.specs.Imports.{NumberType, Reason, NotEnough, Constraint, Shape, Range, Broken, Size, Long}
 use Rattle.td_core.specs.Outcome.{Ending, Accepted, Rejected, Behavior, accepted}
 use Rattle.td_meaning.specs.Meaning.{taken, up_to_zero, pick}
 use Rattle.td_meaning.proofs.Zeros.{zero_turns, turns_of, turns_none, turns_on}
-use Rattle.td_write_values.specs.declared.error.WriteRule.TheVariants.{Shape, Range, Broken, Size, Long}
 use Rattle.td_write_values.specs.declared.limits.TheConstants.{MOST_WRITTEN}
 use Rattle.td_write_values.specs.Datum.{Datum, Number, Sequence, Bytes, Empty, list_of}
 use Rattle.td_write_values.specs.Bytes.{number_bytes, fits}

@@ -1,17 +1,14 @@
 -- Values, the bytes that spell them, and the meaning of these bytes.
 use Rattle.std.specs.Prelude.{◌≡◌, ℕ, ◌<◌, ◌≤◌, List, [], length, Option, Some, None, slice_get}
 use Rattle.std.specs.List.{All}
-use Rattle.td_core.specs.declared.module.TypeDef.{TypeDef}
-use Rattle.td_core.specs.declared.module.Module.{Module}
+use Rattle.td_write_spells.specs.Imports.{TypeDef, Module, Reason, Shape, Range, Broken, Size, Long}
 use Rattle.td_core.specs.declared.module.Entry.{Entry}
-use Rattle.td_core.specs.declared.outcome.Reason.{Reason}
 use Rattle.td_core.specs.Outcome.{Ending, Accepted, Rejected}
 use Rattle.td_core.specs.Copies.{IsCopying}
 use Rattle.td_kinds.specs.Kinds.{kinds_below}
 use Rattle.td_core.specs.Formed.{IsModuleFormed}
 use Rattle.td_kinds.specs.KindRules.{body_faults, kind_faults}
 use Rattle.td_meaning.specs.Meaning.{meaning}
-use Rattle.td_write_values.specs.declared.error.WriteRule.TheVariants.{Shape, Range, Broken, Size, Long}
 use Rattle.td_write_values.specs.declared.limits.TheConstants.{MOST_WRITTEN}
 use Rattle.td_write_values.specs.Datum.{Datum, Data, Number, Sequence, Bytes, Empty, End, More}
 use Rattle.td_write_values.specs.Spelling.{spelling}

@@ -1,17 +1,11 @@
 -- Worked rows of writing (own rule), on the modules of the meaning's rows. For each value the answer of writing, and its
 -- spelling.
 use Rattle.std.specs.Prelude.{◌≡◌, ℕ, List, [], ◌∷◌, Option, Some, None}
-use Rattle.td_num.specs.declared.number.Width.TheVariants.{Two}
-use Rattle.td_num.specs.declared.number.ByteOrder.TheVariants.{LittleEndian}
+use Rattle.td_write_spells.specs.Imports.{Two, LittleEndian, Once, Filling, OnceFilling, Struct, Module, Constraint, Impossible, Action, Shape, Range, Broken, Size, Long}
 use Rattle.td_core.specs.declared.expressions.Scalar.TheVariants.{Eight, ThirtyTwo}
 use Rattle.td_core.specs.Term.{number, name}
 use Rattle.td_core.specs.declared.module.Element.TheVariants.{Listed, Named, Rest, Unit as UnitElement, Zeros}
-use Rattle.td_core.specs.declared.module.Extent.TheVariants.{Once, Filling, OnceFilling}
-use Rattle.td_core.specs.declared.module.Body.TheVariants.{Struct}
-use Rattle.td_core.specs.declared.module.Module.{Module}
-use Rattle.td_core.specs.declared.outcome.Reason.TheVariants.{Constraint, Impossible, Action}
 use Rattle.td_meaning.specs.Rows.{byte, part_of, field_of, definition_of, module_of, module_P, module_J, module_L, module_C, module_D, module_Z, module_N, module_U, module_Q, module_R, module_V}
-use Rattle.td_write_values.specs.declared.error.WriteRule.TheVariants.{Shape, Range, Broken, Size, Long}
 use Rattle.td_write_values.specs.Datum.{Datum, Number, Sequence, Bytes, Empty, data_of}
 use Rattle.td_write_values.specs.Spelling.{spelling}
 use Rattle.td_write_values.specs.Writing.{Written, Done, Refused, writing, whole}

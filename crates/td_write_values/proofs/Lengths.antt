@@ -2,9 +2,7 @@
 -- A number has as many bytes as its width says.
 use Rattle.std.proofs.Common.{◌≡◌, ℕ, zero, suc, ◌/◌, length, refl, ap}
 use Rattle.td_num.specs.Numbers.{bytes_in}
-use Rattle.td_num.specs.declared.number.ByteOrder.{ByteOrder}
-use Rattle.td_num.specs.declared.number.ByteOrder.TheVariants.{LittleEndian, BigEndian}
-use Rattle.td_num.specs.declared.number.NumberType.{NumberType}
+use Rattle.td_write_values.specs.Imports.{ByteOrder, LittleEndian, BigEndian, NumberType}
 use Rattle.td_write_values.specs.Bytes.{rising_bytes, falling_bytes, ordered_bytes, number_bytes}
 
 rising_length : (w n : ℕ) → length (rising_bytes w n) ≡ w

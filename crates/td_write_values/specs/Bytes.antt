@@ -1,15 +1,9 @@
 -- The bytes of a number, and which numbers fit (3D manual, "Base types"; own rule for bits).
 use Rattle.std.specs.Prelude.{ℕ, zero, suc, ◌+◌, ◌*◌, ◌/◌, ◌%◌, ◌^◌, Bool, true, false, ◌&&◌, nat_eq, nat_le, List, [], ◌∷◌, Option, Some, None}
 use Rattle.td_num.specs.Numbers.{bytes_in, byte_of}
-use Rattle.td_num.specs.declared.number.ByteOrder.{ByteOrder}
-use Rattle.td_num.specs.declared.number.ByteOrder.TheVariants.{LittleEndian, BigEndian}
-use Rattle.td_num.specs.declared.number.NumberType.{NumberType}
-use Rattle.td_core.specs.declared.module.Element.{Element}
+use Rattle.td_write_values.specs.Imports.{ByteOrder, LittleEndian, BigEndian, NumberType, Element, Extent, Once, Part}
 use Rattle.td_core.specs.declared.module.Element.TheVariants as element
-use Rattle.td_core.specs.declared.module.Extent.{Extent}
-use Rattle.td_core.specs.declared.module.Extent.TheVariants.{Once}
 use Rattle.td_core.specs.declared.module.Bits.{Bits}
-use Rattle.td_core.specs.declared.module.Part.{Part}
 use Rattle.td_core.specs.Types.{is_octet}
 use Rattle.td_core.specs.Formed.{bits_bound}
 use Rattle.td_meaning.specs.Meaning.{bits_of}

@@ -2,18 +2,8 @@
 -- of bytes spells a value by a type. None: the value has another shape, a number of it doesn't fit, or an array's bytes
 -- aren't as many as its size. What `where`, refinements, enums and actions say isn't looked at: that is the meaning's.
 use Rattle.std.specs.Prelude.{ℕ, zero, suc, Bool, true, false, ◌&&◌, nat_eq, List, [], ◌∷◌, ◌++◌, length, replicate, Option, Some, None, slice_get}
-use Rattle.td_num.specs.declared.number.NumberType.{NumberType}
-use Rattle.td_core.specs.declared.module.Element.{Element}
+use Rattle.td_write_values.specs.Imports.{NumberType, Element, Extent, Once, Filling, OnceFilling, UpToZero, Part, Field, Body, Struct, Casetype, TypeDef, Module, Entry}
 use Rattle.td_core.specs.declared.module.Element.TheVariants as element
-use Rattle.td_core.specs.declared.module.Extent.{Extent}
-use Rattle.td_core.specs.declared.module.Extent.TheVariants.{Once, Filling, OnceFilling, UpToZero}
-use Rattle.td_core.specs.declared.module.Part.{Part}
-use Rattle.td_core.specs.declared.module.Field.{Field}
-use Rattle.td_core.specs.declared.module.Body.{Body}
-use Rattle.td_core.specs.declared.module.Body.TheVariants.{Struct, Casetype}
-use Rattle.td_core.specs.declared.module.TypeDef.{TypeDef}
-use Rattle.td_core.specs.declared.module.Module.{Module}
-use Rattle.td_core.specs.declared.module.Entry.{Entry}
 use Rattle.td_meaning.specs.Doing.{natural_of}
 use Rattle.td_meaning.specs.Meaning.{values, divides, equals, extended, case_for, pick, entry_place}
 use Rattle.td_write_values.specs.Datum.{Datum, Number, Sequence, Bytes, Empty, list_of}

@@ -6,22 +6,12 @@
 -- gives it.
 use Rattle.std.specs.Prelude.{ℕ, zero, suc, ◌+◌, ◌/◌, Bool, true, false, nat_eq, nat_le, List, [], ◌∷◌, ◌++◌, length, map, replicate, Option, Some, None, slice_get, slice_index}
 use Rattle.td_num.specs.Numbers.{bytes_in, places_from}
-use Rattle.td_num.specs.declared.number.NumberType.{NumberType}
+use Rattle.td_write_values.specs.Imports.{NumberType, Element, Extent, Once, Filling, OnceFilling, UpToZero, Part, Field, Body, Struct, Casetype, TypeDef, Module, Entry}
 use Rattle.td_num.specs.Lists.{is_among}
 use Rattle.td_core.specs.Term.{Term}
 use Rattle.td_core.specs.declared.module.NameId.{NameId}
-use Rattle.td_core.specs.declared.module.Element.{Element}
 use Rattle.td_core.specs.declared.module.Element.TheVariants as element
-use Rattle.td_core.specs.declared.module.Extent.{Extent}
-use Rattle.td_core.specs.declared.module.Extent.TheVariants.{Once, Filling, OnceFilling, UpToZero}
 use Rattle.td_core.specs.declared.module.CopyOut.{CopyOut}
-use Rattle.td_core.specs.declared.module.Part.{Part}
-use Rattle.td_core.specs.declared.module.Field.{Field}
-use Rattle.td_core.specs.declared.module.Body.{Body}
-use Rattle.td_core.specs.declared.module.Body.TheVariants.{Struct, Casetype}
-use Rattle.td_core.specs.declared.module.TypeDef.{TypeDef}
-use Rattle.td_core.specs.declared.module.Module.{Module}
-use Rattle.td_core.specs.declared.module.Entry.{Entry}
 use Rattle.td_core.specs.declared.outcome.Reason.TheVariants.{Constraint, Impossible}
 use Rattle.td_core.specs.Outcome.{Ending, Accepted, Rejected, Behavior}
 use Rattle.td_meaning.specs.Doing.{natural_of}

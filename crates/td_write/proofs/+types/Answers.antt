@@ -3,9 +3,7 @@ use Rattle.std.proofs.lemmas.Option.{gets}
 use Rattle.std.proofs.lemmas.Grind.{common_steps}
 use Rattle.std.specs.Prelude.{slice_get}
 use Rattle.std.proofs.lemmas.List.{drop_more, drop_all, append-nil}
-use Rattle.td_core.specs.declared.module.Field.{Field}
-use Rattle.td_core.specs.declared.module.TypeDef.{TypeDef}
-use Rattle.td_write_values.specs.declared.error.WriteRule.TheVariants.{Shape, Size}
+use Rattle.td_write.specs.Imports.{Field, TypeDef, Shape, Size}
 use Rattle.td_write_values.specs.Datum.{Datum, Sequence, Empty, data_of}
 use Rattle.td_write_values.specs.DatumView.{datum_at}
 use Rattle.td_write_values.specs.Bytes.{unit_type, is_byte}

@@ -9,4 +9,5 @@ unfolding command_app
 returns c =
     let first = c.in_ok-tool.ensures ∙ ap (λ (a : App). with_subcommand a (named_shape (codes "c"))) c.new-tool.ensures.app in
     let all = c.in_ok-tool-2.ensures ∙ ap (λ (a : App). with_subcommand a (named_shape (codes "header"))) first in
-    ap app_of_fields c.subcommand_required.ensures ∙ ap (on_top (λ s. record s { subcommand_required = true })) all
+    let whole = c.in_ok-tool-3.ensures ∙ ap (λ (a : App). with_subcommand a (named_shape (codes "parts"))) all in
+    ap app_of_fields c.subcommand_required.ensures ∙ ap (on_top (λ s. record s { subcommand_required = true })) whole

@@ -1,6 +1,7 @@
 use Rattle.std.proofs.Common.{refl, sym, subst}
 use Rattle.td_code.specs.Compile.{IsImageOf}
-use Rattle.td_cli_command.specs.declared.command.Command.TheVariants.{Pack}
+use Rattle.td_cli_command.specs.declared.command.Command.TheVariants.{Read}
+use Rattle.td_cli_command.specs.declared.command.Reading.TheVariants.{Pack}
 use Rattle.td_cli.specs.CallEnds.{passage}
 use Rattle.td_cli.proofs.Texts.{of_pack, text_answers, text_unanswered}
 use Rattle.td_cli.proofs.pack.answer_pack.Goals as goal
@@ -8,10 +9,10 @@ use Rattle.td_cli.proofs.pack.answer_pack.Goals as goal
 pub returns-in-Ok : goal.returns-in-Ok
 returns-in-Ok g c =
     let input = c.args.input.now in
-    text_answers Pack of_pack (IsImageOf input) input c.as_slice.result.now c.in-Ok.image (passage g.O.Sink.state c.args.out.now c.finish_bytes.new.out) (passage g.E.Sink.state c.args.err.now c.args.err.now) c.finish_bytes.result c.requires c.in-Ok.ensures
+    text_answers (Read Pack) of_pack (IsImageOf input) input c.as_slice.result.now c.in-Ok.image (passage g.O.Sink.state c.args.out.now c.finish_bytes.new.out) (passage g.E.Sink.state c.args.err.now c.args.err.now) c.finish_bytes.result c.requires c.in-Ok.ensures
     (c.requires, subst (IsImageOf input) (sym c.as_slice.ensures) c.in-Ok.ensures.stands) c.finish_bytes.ensures refl
 
 pub returns-in-Err : goal.returns-in-Err
 returns-in-Err g c =
     let input = c.args.input.now in
-    text_unanswered Pack of_pack (IsImageOf input) input c.in-Err.error (passage g.O.Sink.state c.args.out.now c.args.out.now) (passage g.E.Sink.state c.args.err.now c.finish_unanswered-status.new.err) c.finish_unanswered-status.result c.requires c.in-Err.ensures c.finish_unanswered-status.ensures refl
+    text_unanswered (Read Pack) of_pack (IsImageOf input) input c.in-Err.error (passage g.O.Sink.state c.args.out.now c.args.out.now) (passage g.E.Sink.state c.args.err.now c.finish_unanswered-status.new.err) c.finish_unanswered-status.result c.requires c.in-Err.ensures c.finish_unanswered-status.ensures refl

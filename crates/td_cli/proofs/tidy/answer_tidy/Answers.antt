@@ -1,5 +1,6 @@
 use Rattle.std.proofs.Common.{refl, sym, subst}
-use Rattle.td_cli_command.specs.declared.command.Command.TheVariants.{Tidy}
+use Rattle.td_cli_command.specs.declared.command.Command.TheVariants.{Read}
+use Rattle.td_cli_command.specs.declared.command.Reading.TheVariants.{Tidy}
 use Rattle.td_cli.specs.Answers.{IsTidy}
 use Rattle.td_cli.specs.CallEnds.{passage}
 use Rattle.td_cli.proofs.Texts.{of_tidy, text_answers, text_unanswered}
@@ -8,10 +9,10 @@ use Rattle.td_cli.proofs.tidy.answer_tidy.Goals as goal
 pub returns-in-Ok : goal.returns-in-Ok
 returns-in-Ok g c =
     let input = c.args.input.now in
-    text_answers Tidy of_tidy (IsTidy input) input c.as_slice.result.now c.in-Ok.text (passage g.O.Sink.state c.args.out.now c.finish_bytes.new.out) (passage g.E.Sink.state c.args.err.now c.args.err.now) c.finish_bytes.result c.requires c.in-Ok.ensures
+    text_answers (Read Tidy) of_tidy (IsTidy input) input c.as_slice.result.now c.in-Ok.text (passage g.O.Sink.state c.args.out.now c.finish_bytes.new.out) (passage g.E.Sink.state c.args.err.now c.args.err.now) c.finish_bytes.result c.requires c.in-Ok.ensures
     (c.requires, subst (IsTidy input) (sym c.as_slice.ensures) c.in-Ok.ensures.stands) c.finish_bytes.ensures refl
 
 pub returns-in-Err : goal.returns-in-Err
 returns-in-Err g c =
     let input = c.args.input.now in
-    text_unanswered Tidy of_tidy (IsTidy input) input c.in-Err.error (passage g.O.Sink.state c.args.out.now c.args.out.now) (passage g.E.Sink.state c.args.err.now c.finish_unanswered-status.new.err) c.finish_unanswered-status.result c.requires c.in-Err.ensures c.finish_unanswered-status.ensures refl
+    text_unanswered (Read Tidy) of_tidy (IsTidy input) input c.in-Err.error (passage g.O.Sink.state c.args.out.now c.args.out.now) (passage g.E.Sink.state c.args.err.now c.finish_unanswered-status.new.err) c.finish_unanswered-status.result c.requires c.in-Err.ensures c.finish_unanswered-status.ensures refl

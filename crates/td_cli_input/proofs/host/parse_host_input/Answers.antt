@@ -1,11 +1,8 @@
 use Rattle.std.proofs.Common.{◌≡◌, ℕ, ◌<◌, List, length, Err, subst, sym, ap, ◌∙◌, ◌⊎◌, inl, inr}
 use Rattle.std.proofs.lemmas.Bool.{false≢true}
 use Rattle.std.proofs.lemmas.Result.{err_from_is_err_and}
-use Rattle.td_core.specs.declared.module.Module.{Module}
-use Rattle.td_front.specs.declared.error.FrontError.{FrontError}
+use Rattle.td_cli_input.specs.Imports.{Module, FrontError, HostJob, JobError}
 use Rattle.td_front.specs.ModuleText.{IsModuleText, RefusedBy}
-use Rattle.td_posts.specs.declared.job.HostJob.{HostJob}
-use Rattle.td_job.specs.declared.error.JobError.{JobError}
 use Rattle.td_job.specs.declared.error.JobError.TheVariants as jobs
 use Rattle.td_job_host.specs.HostJobs.{IsHostJob, RefusedHostJob}
 use Rattle.td_cli_input.specs.declared.refusal.Refusal.TheVariants.{BadModule}

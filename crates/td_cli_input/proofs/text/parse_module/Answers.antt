@@ -1,5 +1,5 @@
 use Rattle.std.proofs.Common.{◌≡◌, ℕ, List, Err, subst, sym, ap, ◌∙◌, ◌⊎◌}
-use Rattle.td_front.specs.declared.error.FrontError.{FrontError}
+use Rattle.td_cli_input.specs.Imports.{FrontError}
 use Rattle.td_front.specs.declared.error.FrontError.TheVariants as front
 use Rattle.td_front.specs.ModuleText.{IsModuleText, RefusedBy}
 use Rattle.td_lexer.specs.Splits.{HasToken}

@@ -1,10 +1,6 @@
 use Rattle.std.proofs.Common.{◌≡◌, ℕ, List, sym, ap, ◌∙◌, subst, length, arith}
-use Rattle.td_stream.specs.declared.load.Load.{Load}
-use Rattle.td_stream.specs.declared.stretch.Stretch.{Stretch}
+use Rattle.td_descr.specs.Imports.{Load, Stretch, Outcome, Verdict, Parts}
 use Rattle.td_stream.specs.Layouts.{plain}
-use Rattle.td_core.specs.declared.outcome.Outcome.{Outcome}
-use Rattle.td_core.specs.declared.outcome.Verdict.{Verdict}
-use Rattle.td_ir.specs.declared.tables.Parts.{Parts}
 use Rattle.td_ir.specs.Entries.{buffers_of}
 use Rattle.td_lower_means.proofs.Opening.{buffers_same}
 use Rattle.td_vm.specs.Frames.{FrameView, outcome_in}

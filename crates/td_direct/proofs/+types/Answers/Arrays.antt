@@ -2,13 +2,7 @@
 use Rattle.std.proofs.Common.{◌≡◌, ℕ, suc, ◌+◌, ◌-◌, ◌*◌, ◌<◌, ◌≤◌, List, [], length, true, false, refl, sym, ap, ◌∙◌, subst, arith}
 use Rattle.std.specs.Prelude.{slice_index, map, nat_eq, Option, IfSome}
 use Rattle.std.proofs.lemmas.Result.{err_from_is_err_and}
-use Rattle.td_core.specs.declared.module.Element.{Element}
-use Rattle.td_core.specs.declared.module.Extent.{Extent}
-use Rattle.td_core.specs.declared.module.TypeDef.{TypeDef}
-use Rattle.td_core.specs.declared.outcome.Reason.TheVariants.{NotEnough, ListSize}
-use Rattle.td_core.specs.declared.outcome.TraceFrame.{TraceFrame}
-use Rattle.td_core.specs.declared.outcome.Verdict.{Verdict}
-use Rattle.td_core.specs.declared.outcome.Verdict.TheVariants.{Accept, Reject}
+use Rattle.td_direct.specs.Imports.{Element, Extent, TypeDef, NotEnough, ListSize, TraceFrame, Verdict, Accept, Reject}
 use Rattle.td_core.specs.Outcome.{plain, and_then, accepted}
 use Rattle.td_meaning.specs.Meaning.{values_of, taken, zeros_meaning, elements, element_up_to_zero, filled, filled_once, demanded, divides, equals}
 use Rattle.td_meaning.specs.Words64.{values, listed_meaning, shape_meaning, element_meaning}

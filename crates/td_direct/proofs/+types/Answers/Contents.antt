@@ -3,12 +3,10 @@ use Rattle.std.proofs.Common.{◌≡◌, ℕ, ◌-◌, ◌<◌, List, ◌∷◌,
 use Rattle.std.specs.Prelude.{◌⊎◌}
 use Rattle.std.proofs.lemmas.Result.{err_from_is_err_and}
 use Rattle.td_num.specs.Numbers.{bytes_in, number_at}
-use Rattle.td_num.specs.declared.number.NumberType.{NumberType}
+use Rattle.td_direct.specs.Imports.{NumberType, Field as FieldDef, Verdict}
 use Rattle.td_num.specs.Lists.{is_among}
 use Rattle.td_core.specs.declared.module.Element.TheVariants as element
-use Rattle.td_core.specs.declared.module.Field.{Field as FieldDef}
 use Rattle.td_core.specs.declared.outcome.Spot.TheVariants.{Field}
-use Rattle.td_core.specs.declared.outcome.Verdict.{Verdict}
 use Rattle.td_core.specs.Outcome.{plain, and_then, ending_within}
 use Rattle.td_meaning.specs.Meaning.{values_of as values_in, field_place, first_name}
 use Rattle.td_meaning.specs.Words64.{fields_meaning, content_meaning, copied_meaning}

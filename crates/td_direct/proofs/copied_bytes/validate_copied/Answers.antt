@@ -3,7 +3,7 @@ use Rattle.std.proofs.lemmas.List.{append-nil, length-map}
 use Rattle.std.proofs.Math.Seq.{map-set_same}
 use Rattle.td_num.specs.Numbers.{places_from}
 use Rattle.td_core.specs.Held.{AreHeld}
-use Rattle.td_core.specs.declared.outcome.Reason.TheVariants.{NotEnough}
+use Rattle.td_direct.specs.Imports.{NotEnough}
 use Rattle.td_core.specs.Outcome.{accepted, rejected, after_reading}
 use Rattle.td_meaning.specs.Meaning.{with_copy}
 use Rattle.td_stream.specs.Loads.{Carries}

@@ -3,7 +3,7 @@ use Rattle.std.specs.Prelude.{◌⊎◌}
 use Rattle.std.proofs.lemmas.Result.{err_from_is_err_and}
 use Rattle.td_num.specs.Numbers.{bytes_in, number_at}
 use Rattle.td_num.specs.Lists.{is_among}
-use Rattle.td_core.specs.declared.module.Field.{Field}
+use Rattle.td_direct.specs.Imports.{Field}
 use Rattle.td_core.specs.declared.outcome.Spot.TheVariants.{Field as FieldSpot}
 use Rattle.td_core.specs.Outcome.{Ending, ending_within, plain, and_then, within}
 use Rattle.td_meaning.specs.Meaning.{field_place, first_name, values_of}

@@ -1,7 +1,6 @@
 use Rattle.std.proofs.Common.{rules, ◌≡◌, ◌+◌, ◌<◌, ◌≤◌, [], ◌++◌, true, false, refl, sym, ap, ◌∙◌, arith, length}
 use Rattle.td_num.specs.Numbers.{bytes_in, places_from}
-use Rattle.td_core.specs.declared.module.Field.{Field}
-use Rattle.td_core.specs.declared.outcome.Reason.TheVariants.{NotEnough}
+use Rattle.td_direct.specs.Imports.{Field, NotEnough}
 use Rattle.td_core.specs.declared.outcome.Spot.TheVariants.{Field as FieldSpot}
 use Rattle.td_core.specs.Outcome.{Rejected, ending_within}
 use Rattle.td_meaning.specs.Naming.{is_needed}

@@ -1,6 +1,5 @@
 use Rattle.std.proofs.Common.{rules, ◌≡◌, ◌+◌, ◌≤◌, ℕ, List, None, Some, sym, ap, ◌∙◌}
-use Rattle.td_core.specs.declared.module.TypeDef.{TypeDef}
-use Rattle.td_core.specs.declared.module.Body.TheVariants.{Struct}
+use Rattle.td_direct.specs.Imports.{TypeDef, Struct}
 use Rattle.td_core.specs.Outcome.{accepted}
 use Rattle.td_meaning.specs.Words64.{below, definition_meaning}
 use Rattle.td_direct.specs.Passing.{AreQuiet}

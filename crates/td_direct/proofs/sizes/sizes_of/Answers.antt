@@ -1,7 +1,7 @@
 use Rattle.std.proofs.Common.{rules, ◌≡◌, ℕ, List, [], ◌∷◌, ◌++◌, Some, length, length-append, arith, refl, subst, sym, ap, ◌∙◌}
 use Rattle.std.specs.Prelude.{Option, slice_get}
 use Rattle.std.proofs.lemmas.Option.{slice_get_read}
-use Rattle.td_core.specs.declared.module.TypeDef.{TypeDef}
+use Rattle.td_direct.specs.Imports.{TypeDef}
 use Rattle.td_direct.specs.Passing.{AreSizes}
 use Rattle.td_direct.proofs.PassingLemmas.{sizes_more}
 use Rattle.td_direct.proofs.sizes.sizes_of.Goals as goal

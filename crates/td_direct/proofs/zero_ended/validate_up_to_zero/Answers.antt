@@ -1,7 +1,7 @@
 use Rattle.std.proofs.Common.{rules, ◌≡◌, suc, ◌+◌, ◌-◌, ◌*◌, ◌/◌, ◌<◌, ◌≤◌, min, true, false, cond, refl, sym, ap, ◌∙◌, arith, subst}
 use Rattle.std.specs.Prelude.{nat_eq, nat_le}
 use Rattle.td_num.specs.Numbers.{bytes_in, number_at, places_from}
-use Rattle.td_core.specs.declared.outcome.Reason.TheVariants.{Constraint, NotEnough}
+use Rattle.td_direct.specs.Imports.{Constraint, NotEnough}
 use Rattle.td_core.specs.Outcome.{rejected, accepted}
 use Rattle.td_stream.proofs.Stages.{later_trans, carried}
 use Rattle.td_meaning.specs.Meaning.{up_to_zero}

@@ -1,8 +1,5 @@
 use Rattle.std.proofs.Common.{◌≡◌, ℕ, List, [], refl, sym, ◌∙◌}
-use Rattle.td_num.specs.declared.number.NumberType.{NumberType}
-use Rattle.td_core.specs.declared.module.Element.{Element}
-use Rattle.td_core.specs.declared.module.Element.TheVariants.{Number, Listed, Named, Unit, Rest, Zeros}
-use Rattle.td_core.specs.declared.outcome.Reason.TheVariants.{ListSize}
+use Rattle.td_direct.specs.Imports.{NumberType, Element, Number, Listed, Named, Unit, Rest, Zeros, ListSize}
 use Rattle.td_core.specs.Outcome.{plain, rejected}
 use Rattle.td_meaning.specs.Meaning.{element_up_to_zero}
 use Rattle.td_meaning.specs.Verdicts.{ending_of}

@@ -1,6 +1,6 @@
 use Rattle.std.proofs.Common.{rules, ◌≡◌, suc, ◌+◌, ◌-◌, ◌<◌, [], ◌∷◌, false, sym, ap, ◌∙◌, arith}
 use Rattle.std.specs.Prelude.{nat_eq, slice_index}
-use Rattle.td_core.specs.declared.outcome.Reason.TheVariants.{Padding}
+use Rattle.td_direct.specs.Imports.{Padding}
 use Rattle.td_core.specs.Outcome.{rejected, accepted}
 use Rattle.td_stream.proofs.Stages.{later_trans, carried}
 use Rattle.td_meaning.specs.Meaning.{zeros_meaning}

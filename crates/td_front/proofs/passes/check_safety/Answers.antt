@@ -1,5 +1,5 @@
 use Rattle.std.proofs.Common.{◌<◌, length, ap, Err, subst}
-use Rattle.td_core.specs.declared.module.Module.{Module}
+use Rattle.td_front.specs.Imports.{Module}
 use Rattle.td_front.proofs.Memory.{arith_memory, has_definition}
 use Rattle.td_front.proofs.passes.check_safety.Goals as goal
 use Rattle.td_num.proofs.Equals.{same_error}

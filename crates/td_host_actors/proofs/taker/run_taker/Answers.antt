@@ -25,11 +25,19 @@ run_ring-requires-clause-code g c =
     let is = first_code c.versions-versions.result.now cs r.code c.index-versions-0.result c.versions-versions.ensures.codes r.first in
     subst (λ (x : Parts). IsMessageCode x c.args.desk.now.job) (sym is) (message_code cs c.args.desk.now.job r.code c.requires.code r.first)
 
-pub run_ring-requires-clause-armed : goal.run_ring-requires-clause-armed
-run_ring-requires-clause-armed g c =
+pub run_ring-requires-clause-ready : goal.run_ring-requires-clause-ready
+run_ring-requires-clause-ready g c =
     let r = c.requires.ready in
     let is = first_code c.versions-versions.result.now c.args.desk.now.codes.codes r.code c.index-versions-0.result c.versions-versions.ensures.codes r.first in
-    subst (λ (x : Parts). IsArmed x c.args.taker.now.frame) (sym is) r.armed
+    record {
+      own = r.own;
+      entries = r.entries;
+      most = r.most;
+      few = r.few;
+      inside = r.inside;
+      bytes = r.bytes;
+      armed = subst (λ (x : Parts). IsArmed x c.args.taker.now.frame) (sym is) r.armed;
+    }
 
 pub run_ring-requires-clause-rooms : goal.run_ring-requires-clause-rooms
 run_ring-requires-clause-rooms g c =

@@ -1,6 +1,6 @@
 use Rattle.std.proofs.Common.{inl, inr, ◌≡◌, List, Ok, subst}
 use Rattle.std.proofs.lemmas.Result.{err_from_is_err_and}
-use Rattle.td_ir.specs.declared.tables.Routine.{Routine}
+use Rattle.td_image.specs.Imports.{Routine}
 use Rattle.td_image.specs.Format.{times}
 use Rattle.td_image.specs.Image.{entry}
 use Rattle.td_image.proofs.reading.code_tables_at.Goals as goal

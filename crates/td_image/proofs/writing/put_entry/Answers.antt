@@ -1,9 +1,7 @@
 use Rattle.std.proofs.Common.{◌≡◌, ℕ, List, ◌++◌, sym, subst}
 use Rattle.std.specs.Int.{w32, to_le_bytes}
 use Rattle.std.specs.List.{flat_map}
-use Rattle.td_core.specs.declared.module.NameId.{NameId}
-use Rattle.td_core.specs.declared.module.Param.{Param}
-use Rattle.td_core.specs.declared.module.Cell.{Cell}
+use Rattle.td_image.specs.Imports.{NameId, Param, Cell}
 use Rattle.td_image.specs.Rows as rows
 use Rattle.td_image.proofs.Chain.{chain4}
 use Rattle.td_image.proofs.Flat.{entry_flat}

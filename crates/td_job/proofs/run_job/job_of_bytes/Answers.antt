@@ -1,7 +1,7 @@
 use Rattle.std.proofs.Common.{rules, ◌<◌, ℕ, None, sym, subst, arith}
 use Rattle.std.specs.List.{All}
 use Rattle.serde_json.specs.View.{view}
-use Rattle.td_sched.specs.declared.store.PlannedStore.{PlannedStore}
+use Rattle.td_job.specs.Imports.{PlannedStore}
 use Rattle.td_job.specs.declared.run_job.RunJob.{RunJob}
 use Rattle.td_job.specs.Jobs.{from_bytes, IsJobWith}
 use Rattle.td_job.proofs.Scattered.{has_room}

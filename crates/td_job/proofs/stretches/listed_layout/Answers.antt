@@ -1,5 +1,5 @@
 use Rattle.std.proofs.Common.{ap, ◌∙◌, length, arith}
-use Rattle.td_stream.specs.declared.stretch.Stretch.{Stretch}
+use Rattle.td_job.specs.Imports.{Stretch}
 use Rattle.td_job.proofs.Scattered.{few_stretches}
 use Rattle.td_job.proofs.stretches.listed_layout.Goals as goal
 

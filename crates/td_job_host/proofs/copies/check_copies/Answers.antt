@@ -1,8 +1,7 @@
 use Rattle.std.proofs.Common.{◌≡◌, List, [], map, ap, ◌∙◌, subst}
 use Rattle.std.specs.Prelude.{OnOk, IfErr}
 use Rattle.serde_json.specs.View.{items_view}
-use Rattle.td_core.specs.declared.module.Buffer.{Buffer}
-use Rattle.td_job.specs.declared.error.JobError.{JobError}
+use Rattle.td_job_host.specs.Imports.{Buffer, JobError}
 use Rattle.td_job.specs.Fields.{IsFirst}
 use Rattle.td_posts.specs.Servable.{room_in}
 use Rattle.td_job_host.specs.declared.totals.Total.TheVariants.{Copies}

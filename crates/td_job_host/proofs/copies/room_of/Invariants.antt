@@ -1,6 +1,6 @@
 use Rattle.std.proofs.Common.{◌≡◌, ◌≤◌, ◌+◌, ◌-◌, ◌^◌, map, drop}
 use Rattle.std.specs.Prelude.{min}
-use Rattle.td_core.specs.declared.module.Buffer.{Buffer}
+use Rattle.td_job_host.specs.Imports.{Buffer}
 use Rattle.td_posts.specs.Servable.{room_in}
 use Rattle.td_job_host.proofs.copies.room_of.Given as goal
 

@@ -1,5 +1,5 @@
 use Rattle.std.proofs.Common.{◌≡◌, ◌++◌, drop, map}
-use Rattle.td_core.specs.declared.module.Buffer.{Buffer}
+use Rattle.td_job_host.specs.Imports.{Buffer}
 use Rattle.td_job_host.proofs.copies.rooms_of.Given as goal
 
 -- the rooms so far, and those from here

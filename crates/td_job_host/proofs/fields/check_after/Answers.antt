@@ -1,9 +1,6 @@
 use Rattle.std.proofs.Common.{◌≡◌, List, [], ◌++◌, map, Option, option_map, Result, Ok, Err, OnOk, IfErr, Bor, ◌⊎◌, inr, sym, ap, ◌∙◌, subst}
 use Rattle.serde_json.specs.View.{view, items_view}
-use Rattle.td_core.specs.declared.module.Buffer.{Buffer}
-use Rattle.td_core.specs.declared.module.TypeDef.{TypeDef}
-use Rattle.td_job.specs.declared.error.JobError.{JobError}
-use Rattle.td_job.specs.declared.error.JobError.TheVariants.{NoMemory}
+use Rattle.td_job_host.specs.Imports.{Buffer, TypeDef, JobError, NoMemory}
 use Rattle.td_job.specs.Fields.{IsFirst}
 use Rattle.td_posts.specs.Servable.{room_in}
 use Rattle.td_job_host.specs.Guests.{given_guests, each_script}

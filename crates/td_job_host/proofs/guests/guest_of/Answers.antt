@@ -1,7 +1,7 @@
 use Rattle.std.proofs.Common.{rules, ◌≡◌}
 use Rattle.serde_json.specs.Find.{as_object}
 use Rattle.serde_json.specs.View.{view}
-use Rattle.td_job.specs.declared.error.JobError.TheVariants.{NoMemory}
+use Rattle.td_job_host.specs.Imports.{NoMemory}
 use Rattle.td_job.proofs.Tested.{memory_alone}
 use Rattle.td_job_host.proofs.Naming.{script_tested}
 use Rattle.td_job_host.proofs.guests.guest_of.Goals as goal

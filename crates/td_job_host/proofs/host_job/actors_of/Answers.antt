@@ -1,5 +1,5 @@
 use Rattle.std.proofs.Common.{rules, ◌≡◌}
-use Rattle.td_job.specs.declared.error.JobError.TheVariants.{NoMemory}
+use Rattle.td_job_host.specs.Imports.{NoMemory}
 use Rattle.td_job.proofs.Numbers.{both_empty}
 use Rattle.td_job.proofs.Tested.{memory_alone}
 use Rattle.td_job_host.proofs.host_job.actors_of.Goals as goal

@@ -1,5 +1,5 @@
 use Rattle.std.proofs.Common.{rules, ◌≡◌, ℕ, length, sym, ap, subst, ◌∙◌, arith}
-use Rattle.td_job.specs.declared.error.JobError.TheVariants.{NoMemory}
+use Rattle.td_job_host.specs.Imports.{NoMemory}
 use Rattle.td_job.specs.Words.{IsFilled}
 use Rattle.td_job.proofs.Tested.{memory_alone}
 use Rattle.td_job_host.proofs.host_job.buffer_of.Goals as goal

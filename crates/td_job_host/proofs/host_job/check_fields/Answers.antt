@@ -1,7 +1,6 @@
 use Rattle.std.proofs.Common.{◌≡◌, ◌⊎◌, ℕ, [], Err, inl, inr, sym, ap, subst, ◌∙◌, arith}
 use Rattle.serde_json.specs.View.{view}
-use Rattle.td_job.specs.declared.error.JobError.{JobError}
-use Rattle.td_job.specs.declared.error.JobError.TheVariants.{NoMemory}
+use Rattle.td_job_host.specs.Imports.{JobError, NoMemory}
 use Rattle.td_job.specs.Fields.{IsFirst}
 use Rattle.td_job_host.specs.Guests.{BeginsWithName}
 use Rattle.td_job_host.specs.HostJobs.{buffer_words, rest_faults, FirstFault}

@@ -1,9 +1,7 @@
 use Rattle.std.proofs.Common.{◌≡◌, ◌⊎◌, [], Option, Err, inl, inr, ap, subst}
 use Rattle.serde_json.specs.View.{view}
-use Rattle.td_core.specs.declared.module.TypeDef.{TypeDef}
+use Rattle.td_job_host.specs.Imports.{TypeDef, JobError, NoMemory}
 use Rattle.td_core.specs.Entries.{entry_definition}
-use Rattle.td_job.specs.declared.error.JobError.{JobError}
-use Rattle.td_job.specs.declared.error.JobError.TheVariants.{NoMemory}
 use Rattle.td_job.specs.Fields.{IsFirst}
 use Rattle.td_job_host.specs.Guests.{BeginsWithName}
 use Rattle.td_job_host.specs.HostJobs.{after_faults, FirstFault}

@@ -1,7 +1,7 @@
 use Rattle.std.proofs.Common.{◌≡◌, [], sym, ap, ◌∙◌, arith}
 use Rattle.serde_json.specs.View.{view, items_view}
 use Rattle.td_job.specs.declared.error.Key.TheVariants as key
-use Rattle.td_job.specs.declared.error.JobError.{JobError}
+use Rattle.td_job_host.specs.Imports.{JobError}
 use Rattle.td_job.specs.Fields.{field_of, IsFirst}
 use Rattle.td_job_host.specs.Swaps.{swaps_faults}
 use Rattle.td_job_host.proofs.Elements.{listed_swaps, too_many_swaps, few_swaps}

@@ -1,5 +1,5 @@
 use Rattle.std.proofs.Common.{◌≡◌, ℕ, List, inl, inr, subst}
-use Rattle.td_front.specs.declared.error.FrontError.{FrontError}
+use Rattle.td_job_host.specs.Imports.{FrontError}
 use Rattle.td_front.specs.ModuleText.{RefusedBy}
 use Rattle.td_job_host.proofs.swaps.module_of.Goals as goal
 

@@ -2,8 +2,7 @@ use Rattle.std.proofs.Common.{◌≡◌, ◌⊎◌, Err, inl, inr, get_or, ap, s
 use Rattle.serde_json.specs.View.{view, items_view}
 use Rattle.serde_json.specs.declared.value.Value.{Value}
 use Rattle.td_job.specs.declared.error.Key.TheVariants as key
-use Rattle.td_job.specs.declared.error.JobError.{JobError}
-use Rattle.td_job.specs.declared.error.JobError.TheVariants.{NoMemory}
+use Rattle.td_job_host.specs.Imports.{JobError, NoMemory}
 use Rattle.td_job.specs.Fields.{text_of}
 use Rattle.td_job_host.specs.Swaps.{Spells, ElementFault, FirstSwapFault, MayLackText}
 use Rattle.td_job_host.proofs.Naming.{handed, handed_on}

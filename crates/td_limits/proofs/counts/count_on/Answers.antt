@@ -1,7 +1,7 @@
 use Rattle.std.proofs.Common.{◌≡◌, ◌+◌, ◌++◌, List, [], Option, Some, None, drop, refl, sym, ap, ◌∙◌, arith}
 use Rattle.td_num.proofs.Lists.{drop_next}
 use Rattle.td_num.proofs.Truths.{all_dropped}
-use Rattle.td_ast.specs.declared.definitions.Def.{Def}
+use Rattle.td_limits.specs.Imports.{Def}
 use Rattle.td_limits.specs.declared.limits.Excess.{Excess}
 use Rattle.td_limits.specs.Excesses.{first_excess}
 use Rattle.td_limits.specs.Counts.{count_excesses}

@@ -1,5 +1,5 @@
 use Rattle.std.proofs.Common.{◌≡◌, ◌≤◌, ◌++◌, List, drop}
-use Rattle.td_ast.specs.declared.definitions.Def.{Def}
+use Rattle.td_limits.specs.Imports.{Def}
 use Rattle.td_limits.specs.Excesses.{first_excess}
 use Rattle.td_limits.specs.Counts.{count_excesses}
 use Rattle.td_limits.proofs.counts.count_on.Given as goal

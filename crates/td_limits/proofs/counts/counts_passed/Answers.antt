@@ -1,6 +1,6 @@
 use Rattle.std.proofs.Common.{List, [], ap, ◌∙◌}
 use Rattle.std.proofs.lemmas.List.{append-nil}
-use Rattle.td_ast.specs.declared.definitions.Def.{Def}
+use Rattle.td_limits.specs.Imports.{Def}
 use Rattle.td_limits.specs.Excesses.{first_excess}
 use Rattle.td_limits.specs.Counts.{count_excesses}
 use Rattle.td_limits.proofs.counts.counts_passed.Goals as goal

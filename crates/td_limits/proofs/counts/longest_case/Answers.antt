@@ -1,5 +1,5 @@
 use Rattle.std.proofs.Common.{arith, length}
-use Rattle.td_ast.specs.declared.definitions.CaseTree.{CaseTree}
+use Rattle.td_limits.specs.Imports.{CaseTree}
 use Rattle.td_limits.proofs.Folds.{greatest_more}
 use Rattle.td_limits.proofs.counts.longest_case.Goals as goal
 

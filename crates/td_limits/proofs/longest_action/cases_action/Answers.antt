@@ -1,5 +1,5 @@
 use Rattle.std.proofs.Common.{ap, arith}
-use Rattle.td_ast.specs.declared.definitions.CaseTree.{CaseTree}
+use Rattle.td_limits.specs.Imports.{CaseTree}
 use Rattle.td_limits.specs.Counts.{fields_action}
 use Rattle.td_limits.proofs.Folds.{greatest_more}
 use Rattle.td_limits.proofs.longest_action.cases_action.Goals as goal

@@ -1,5 +1,5 @@
 use Rattle.std.proofs.Common.{arith}
-use Rattle.td_ast.specs.declared.fields.FieldTree.{FieldTree}
+use Rattle.td_limits.specs.Imports.{FieldTree}
 use Rattle.td_limits.specs.Nodes.{action_nodes}
 use Rattle.td_limits.proofs.Folds.{greatest_more}
 use Rattle.td_limits.proofs.longest_action.fields_action.Goals as goal

@@ -1,6 +1,6 @@
 use Rattle.std.proofs.Common.{◌≡◌, ◌+◌, List, [], None, drop, sym, ap, ◌∙◌, arith}
 use Rattle.td_num.proofs.Lists.{drop_next}
-use Rattle.td_ast.specs.declared.definitions.Def.{Def}
+use Rattle.td_limits.specs.Imports.{Def}
 use Rattle.td_limits.specs.Excesses.{first_excess}
 use Rattle.td_limits.specs.Measures.{Measures}
 use Rattle.td_limits.specs.Sizes.{size_excesses}

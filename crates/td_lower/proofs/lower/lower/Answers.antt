@@ -1,6 +1,6 @@
 use Rattle.std.proofs.Common.{◌≡◌, sym, subst, ◌∙◌}
 use Rattle.std.proofs.lemmas.Result.{IfOk-weaker}
-use Rattle.td_ir.specs.declared.tables.Parts.{Parts}
+use Rattle.td_lower.specs.Imports.{Parts}
 use Rattle.td_verify.specs.Verify.{IsSound}
 use Rattle.td_lower_means.specs.CodeRun.{IsCodeOf}
 use Rattle.td_lower.specs.Code.{MeansModule}

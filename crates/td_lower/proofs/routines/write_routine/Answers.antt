@@ -1,6 +1,5 @@
 use Rattle.std.proofs.Common.{rules, ◌≡◌, ℕ, ◌-◌, List, [], ◌∷◌, ◌++◌, length, ap, ◌∙◌, arith}
-use Rattle.td_core.specs.declared.module.NameId.{NameId}
-use Rattle.td_ir.specs.declared.tables.Routine.{Routine}
+use Rattle.td_lower.specs.Imports.{NameId, Routine}
 use Rattle.td_lower_blocks.specs.Block.{size}
 use Rattle.td_lower_blocks.specs.Constructs.{body}
 use Rattle.td_lower_blocks.specs.Lowered.{definition_body}

@@ -2,8 +2,7 @@ use Rattle.std.proofs.Common.{◌≡◌, List, [], ◌∷◌, ◌+◌, drop, fal
 use Rattle.std.specs.Prelude.{Option}
 use Rattle.std.proofs.lemmas.Bool.{ne_eqb}
 use Rattle.std.proofs.lemmas.List.{drop_more, drop_all}
-use Rattle.td_core.specs.declared.module.Case.{Case}
-use Rattle.td_core.specs.declared.module.Field.{Field}
+use Rattle.td_meaning.specs.Imports.{Case, Field}
 use Rattle.td_meaning.specs.Meaning.{case_for}
 use Rattle.td_meaning.proofs.Steps.{case_first}
 use Rattle.td_meaning.proofs.casetypes.case_for.Goals as goal

@@ -1,7 +1,6 @@
 use Rattle.std.proofs.Common.{◌≡◌, List, [], ◌∷◌, ◌+◌, drop, sym, ap, ◌∙◌, subst, arith, ℕ}
 use Rattle.std.proofs.lemmas.List.{drop_more, drop_all}
-use Rattle.td_core.specs.declared.module.Part.{Part}
-use Rattle.td_core.specs.declared.outcome.Verdict.{Verdict}
+use Rattle.td_meaning.specs.Imports.{Part, Verdict}
 use Rattle.td_core.specs.Outcome.{plain, and_then}
 use Rattle.td_meaning.specs.Words64.{parts_meaning, with_part}
 use Rattle.td_meaning.specs.Meaning.{extended}

@@ -1,7 +1,7 @@
 use Rattle.std.proofs.Common.{◌<◌, ◌≤◌, length, get_or, flat_map, map, ap, sym, ◌∙◌, arith}
 use Rattle.std.proofs.lemmas.Bool.Decides.{nat_tests}
 use Rattle.std.proofs.lemmas.List.{length-map}
-use Rattle.td_core.specs.declared.module.Buffer.{Buffer}
+use Rattle.td_report.specs.Imports.{Buffer}
 use Rattle.td_report.specs.Report.{copy_value, copy_line, with_bytes}
 use Rattle.td_report.proofs.Composing.{each_written, each_stopped, writes_as}
 use Rattle.td_report.proofs.Zipped.{pair_here, pair_within, few_first, few_second, take_whole, mapped_at}

@@ -1,5 +1,5 @@
 use Rattle.std.proofs.Common.{Ok, flat_map, map, take}
-use Rattle.td_io.specs.declared.writing.WriteFault.{WriteFault}
+use Rattle.td_report.specs.Imports.{WriteFault}
 use Rattle.td_io.specs.States.{Writes}
 use Rattle.td_report.specs.Report.{copy_line, with_bytes}
 use Rattle.td_report.proofs.copies.write_copies.Given as goal

@@ -1,6 +1,6 @@
 use Rattle.std.proofs.Common.{Ok, Some, [], take, flat_map}
 use Rattle.td_core.specs.Paths.{indexed}
-use Rattle.td_io.specs.declared.writing.WriteFault.{WriteFault}
+use Rattle.td_report.specs.Imports.{WriteFault}
 use Rattle.td_io.specs.States.{Writes}
 use Rattle.td_report.proofs.path_line.write_places.Given as goal
 

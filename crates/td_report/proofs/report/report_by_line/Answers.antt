@@ -1,8 +1,6 @@
 use Rattle.std.proofs.Common.{◌≡◌, List, ℕ, map, sym, ◌∙◌}
 use Rattle.std.specs.Prelude.{option_map}
-use Rattle.td_core.specs.declared.outcome.Outcome.{Outcome}
-use Rattle.td_core.specs.declared.outcome.TraceFrame.{TraceFrame}
-use Rattle.td_stream.specs.declared.load.Load.{Load}
+use Rattle.td_report.specs.Imports.{Outcome, TraceFrame, Load}
 use Rattle.td_report.specs.Report.{report}
 use Rattle.td_report.proofs.Composing.{writes_as}
 use Rattle.td_report.proofs.Zipped.{mapped_same}

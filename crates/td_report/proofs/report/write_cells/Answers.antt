@@ -1,6 +1,6 @@
 use Rattle.std.proofs.Common.{◌<◌, ◌≤◌, None, length, flat_map, ap, sym, arith}
 use Rattle.std.proofs.lemmas.Bool.Decides.{nat_tests}
-use Rattle.td_core.specs.declared.module.Cell.{Cell}
+use Rattle.td_report.specs.Imports.{Cell}
 use Rattle.td_core.specs.declared.module.CellKind.TheVariants.{Number as NumberCell}
 use Rattle.td_num.specs.declared.number.Width.TheVariants.{One}
 use Rattle.td_report.specs.Report.{cell_value, cell_line, with_values}

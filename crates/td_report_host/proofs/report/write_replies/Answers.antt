@@ -1,6 +1,6 @@
 use Rattle.std.proofs.Common.{ℕ, List, [], ◌++◌, flat_map, subst}
 use Rattle.std.proofs.lemmas.List.{take_all}
-use Rattle.td_posts.specs.declared.reply.Reply.{Reply}
+use Rattle.td_report_host.specs.Imports.{Reply}
 use Rattle.td_io.specs.States.{WriteFails, Writes}
 use Rattle.td_report.specs.Paged.{IsMoved}
 use Rattle.td_report_host.specs.Report.{reply_report}

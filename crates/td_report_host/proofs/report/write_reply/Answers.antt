@@ -1,8 +1,7 @@
 use Rattle.std.proofs.Common.{rules, ◌≡◌, Some, List, ap, ◌∙◌}
 use Rattle.std.specs.Prelude.{slice_get, slice_index_or}
 use Rattle.std.proofs.lemmas.Option.{slice_get-get_or}
-use Rattle.td_core.specs.declared.module.Module.{Module}
-use Rattle.td_core.specs.declared.module.Entry.{Entry}
+use Rattle.td_report_host.specs.Imports.{Module, Entry}
 use Rattle.td_report.proofs.Composing.{writes_both, writes_stopped, writes_as}
 use Rattle.td_report_host.specs.Report.{run_by, run_under, reply_report}
 use Rattle.td_report_host.proofs.report.write_reply.Goals as goal

@@ -1,10 +1,7 @@
 use Rattle.std.proofs.Common.{◌≡◌, ℕ, Option, None, List, sym}
 use Rattle.std.specs.Option.{option_copied}
-use Rattle.td_core.specs.declared.outcome.TraceFrame.{TraceFrame}
-use Rattle.td_core.specs.declared.outcome.Outcome.{Outcome}
+use Rattle.td_report_host.specs.Imports.{TraceFrame, Outcome, Load, Stretch}
 use Rattle.td_stream.specs.Copies.{BufferView, held_by}
-use Rattle.td_stream.specs.declared.load.Load.{Load}
-use Rattle.td_stream.specs.declared.stretch.Stretch.{Stretch}
 use Rattle.td_report.specs.Report.{report}
 use Rattle.td_report.proofs.Composing.{writes_as}
 use Rattle.td_report_host.specs.Report.{run_by}

@@ -1,6 +1,5 @@
 use Rattle.std.proofs.Common.{ℕ, List, Bor, option_map, subst}
-use Rattle.td_core.specs.declared.module.Module.{Module}
-use Rattle.td_core.specs.declared.module.Entry.{Entry}
+use Rattle.td_report_host.specs.Imports.{Module, Entry}
 use Rattle.td_io.specs.States.{Takes}
 use Rattle.td_report_host.specs.Report.{take_report}
 use Rattle.td_report.proofs.Pages.{waits_no_more}

@@ -1,6 +1,5 @@
 use Rattle.std.proofs.Common.{Bor, option_map}
-use Rattle.td_core.specs.declared.module.Module.{Module}
-use Rattle.td_core.specs.declared.module.Entry.{Entry}
+use Rattle.td_report_host.specs.Imports.{Module, Entry}
 use Rattle.td_report.proofs.Composing.{writes_both, writes_stopped}
 use Rattle.td_report_host.specs.Report.{answer_report, take_report}
 use Rattle.td_report_host.proofs.takes.write_take.Goals as goal

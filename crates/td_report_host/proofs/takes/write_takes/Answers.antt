@@ -1,9 +1,7 @@
 use Rattle.std.proofs.Common.{ℕ, List, [], ◌++◌, Bor, option_map, flat_map, subst}
 use Rattle.std.proofs.lemmas.List.{take_all}
-use Rattle.td_core.specs.declared.module.Module.{Module}
-use Rattle.td_core.specs.declared.module.Entry.{Entry}
+use Rattle.td_report_host.specs.Imports.{Module, Entry, Take}
 use Rattle.td_io.specs.States.{WriteFails, Writes}
-use Rattle.td_takes.specs.declared.take.Take.{Take}
 use Rattle.td_report.specs.Paged.{IsMoved}
 use Rattle.td_report_host.specs.Report.{take_report}
 use Rattle.td_report.proofs.Pages.{moved_more, moved_stopped, moved_all}

@@ -1,6 +1,5 @@
 use Rattle.std.proofs.Common.{[], Bor, option_map, flat_map, take}
-use Rattle.td_core.specs.declared.module.Module.{Module}
-use Rattle.td_core.specs.declared.module.Entry.{Entry}
+use Rattle.td_report_host.specs.Imports.{Module, Entry}
 use Rattle.td_report.specs.Paged.{IsMoved}
 use Rattle.td_report_host.specs.Report.{take_report}
 use Rattle.td_report_host.proofs.takes.write_takes.Given as goal

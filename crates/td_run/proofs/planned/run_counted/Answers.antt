@@ -1,5 +1,5 @@
 use Rattle.std.proofs.Common.{◌≤◌, List, length, sym, ap, ◌∙◌, subst}
-use Rattle.td_stream.specs.declared.stretch.Stretch.{Stretch}
+use Rattle.td_run.specs.Imports.{Stretch}
 use Rattle.td_stream.specs.Layouts.{count_in, loadable, layout_or_plain}
 use Rattle.td_run.proofs.planned.run_counted.Goals as goal
 

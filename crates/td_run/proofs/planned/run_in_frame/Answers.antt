@@ -1,8 +1,6 @@
 use Rattle.std.proofs.Common.{ℕ, ◌≤◌, Option, List, length, sym, ap, ◌∙◌, subst}
-use Rattle.td_core.specs.declared.outcome.Outcome.{Outcome}
-use Rattle.td_stream.specs.declared.stretch.Stretch.{Stretch}
+use Rattle.td_run.specs.Imports.{Outcome, Stretch, PlannedStore}
 use Rattle.td_stream.specs.Layouts.{count_in, loadable, layout_or_plain}
-use Rattle.td_sched.specs.declared.store.PlannedStore.{PlannedStore}
 use Rattle.td_ir.specs.Entries.{buffers_of}
 use Rattle.td_vm.specs.Frames.{outcome_in}
 use Rattle.td_run.specs.Runs.{IsRunBy}

@@ -1,14 +1,9 @@
 use Rattle.std.proofs.Common.{◌≡◌, ℕ, Option, Some, None, List, [], refl, ap, subst, ◌∙◌}
-use Rattle.td_stream.specs.declared.load.Load.{Load}
-use Rattle.td_stream.specs.declared.stretch.Stretch.{Stretch}
+use Rattle.td_run.specs.Imports.{Load, Stretch, PlannedStore, Entry, Outcome, Parts}
 use Rattle.td_stream.specs.Layouts.{layout_or_plain}
 use Rattle.td_stream.specs.Loads.{buffered}
-use Rattle.td_sched.specs.declared.store.PlannedStore.{PlannedStore}
 use Rattle.td_sched.specs.Plan.{ArePlanned}
 use Rattle.td_sched.specs.View.{PlannedView, PlannedReaches}
-use Rattle.td_core.specs.declared.module.Entry.{Entry}
-use Rattle.td_core.specs.declared.outcome.Outcome.{Outcome}
-use Rattle.td_ir.specs.declared.tables.Parts.{Parts}
 use Rattle.td_ir.specs.Entries.{buffers_of}
 use Rattle.td_vm.specs.Frames.{outcome_in}
 use Rattle.td_run.specs.Runs.{IsRunBy}

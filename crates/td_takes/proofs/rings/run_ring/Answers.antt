@@ -12,7 +12,7 @@ loop-i-init c =
     let a = c.args in
     record {
       running = begins a.validator.now.job.now a.descr.now.code a.descr.now.room a.ring.now.job.now a.ring.now.number a.seat.now a.descr.now a.takes.now.items c.requires.empty c.requires.none;
-      armed = c.requires.armed;
+      ready = c.requires.ready;
       rooms = c.requires.rooms;
       as_many = let n = c.requires.as_many in omega (arith, n);
       space = c.requires.space;
@@ -39,8 +39,8 @@ loop-i-preserved c =
     let shorter = ap (λ (rs : List TakeRoom). length rs) out in
     record {
       running = goes_on a.validator.now.job.now a.descr.now.code a.descr.now.room a.ring.now.job.now a.ring.now.number l.i a.seat.now l.seat t.new.seat a.descr.now l.descr t.new.descr l.takes.items c.push_reserved.new.self.items t.result
-          v.running t.ensures.table t.ensures.descr t.ensures.ring t.ensures.number t.ensures.take t.ensures.read refl refl c.push_reserved.ensures.items;
-      armed = t.ensures.armed;
+          v.running (t.ensures.ready.own ∙ sym v.ready.own) t.ensures.descr t.ensures.ring t.ensures.number t.ensures.take t.ensures.read refl refl c.push_reserved.ensures.items;
+      ready = t.ensures.ready;
       rooms = rest.1;
       as_many = let n = v.as_many in omega (arith, n, shorter);
       space = omega (arith, v.space, c.push_reserved.ensures.capacity);

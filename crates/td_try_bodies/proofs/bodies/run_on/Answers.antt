@@ -13,14 +13,14 @@ lent n xs ys e = subst (λ k. take k (xs ++ drop (length xs) ys) ≡ xs) e (take
 all_held : (n : ℕ) (buffers : List BufferView) → n ≡ length buffers → held_by (take n buffers) ≡ held_by buffers
 all_held n buffers e = subst (λ k. held_by (take k buffers) ≡ held_by buffers) (sym e) (ap held_by (take-length buffers))
 
-pub validate_recorded-requires-clause-formed : goal.validate_recorded-requires-clause-formed
-validate_recorded-requires-clause-formed c = c.requires.checked.formed
+pub validate_direct_recorded-requires-clause-formed : goal.validate_direct_recorded-requires-clause-formed
+validate_direct_recorded-requires-clause-formed c = c.requires.checked.formed
 
-pub validate_recorded-requires-clause-copying : goal.validate_recorded-requires-clause-copying
-validate_recorded-requires-clause-copying c = c.requires.checked.copying
+pub validate_direct_recorded-requires-clause-copying : goal.validate_direct_recorded-requires-clause-copying
+validate_direct_recorded-requires-clause-copying c = c.requires.checked.copying
 
-pub validate_recorded-requires-clause-buffers : goal.validate_recorded-requires-clause-buffers
-validate_recorded-requires-clause-buffers c =
+pub validate_direct_recorded-requires-clause-buffers : goal.validate_direct_recorded-requires-clause-buffers
+validate_direct_recorded-requires-clause-buffers c =
     buffers_fit c.args.m.now c.args.job.now c.as_mut_slice.result.now _ c.requires.values (c.as_mut_slice.ensures.value ∙ c.in_ok-cells.ensures.items ∙ c.as_slice.ensures) (search rules)
 
 pub returns : goal.returns
@@ -29,11 +29,11 @@ returns c =
     let job = c.args.job.now in
     let start = c.as_mut_slice.result.now in
     let args = c.as_slice-args.result.now in
-    let loads = c.validate_recorded.new.loads.list in
-    let left = c.validate_recorded.new.cells in
+    let loads = c.validate_direct_recorded.new.loads.list in
+    let left = c.validate_direct_recorded.new.cells in
     let own = c.in_ok-cells.cells in
-    outcome_is_meant m job loads args start left c.of.result (held_by c.validate_recorded.new.copies.buffers.items) c.held_by_first.result c.in_ok-verdict.verdict c.validate_recorded.new.trace c.args.layout.now
+    outcome_is_meant m job loads args start left c.of.result (held_by c.validate_direct_recorded.new.copies.buffers.items) c.held_by_first.result c.in_ok-verdict.verdict c.validate_direct_recorded.new.trace c.args.layout.now
     c.requires.sound c.requires.long c.requires.laid c.as_slice-args.ensures (c.as_mut_slice.ensures.value ∙ c.in_ok-cells.ensures.items ∙ c.as_slice.ensures)
-    (c.of.ensures ∙ lent own.len left own.items (c.validate_recorded.auto.cells ∙ c.as_mut_slice.ensures.len))
-    (c.held_by_first.ensures ∙ all_held c.len-count.result c.validate_recorded.new.copies.buffers.items (c.len-count.ensures ∙ c.validate_recorded.new.copies.buffers.ok.0))
-    c.validate_recorded.ensures.fetched.rising c.validate_recorded.ensures.fetched.inside c.in_ok-verdict.ensures.behavior
+    (c.of.ensures ∙ lent own.len left own.items (c.validate_direct_recorded.auto.cells ∙ c.as_mut_slice.ensures.len))
+    (c.held_by_first.ensures ∙ all_held c.len-count.result c.validate_direct_recorded.new.copies.buffers.items (c.len-count.ensures ∙ c.validate_direct_recorded.new.copies.buffers.ok.0))
+    c.validate_direct_recorded.ensures.fetched.rising c.validate_direct_recorded.ensures.fetched.inside c.in_ok-verdict.ensures.behavior

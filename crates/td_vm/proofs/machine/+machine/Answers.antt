@@ -9,7 +9,7 @@ use Rattle.td_ir.proofs.Begins.{begin_up}
 use Rattle.td_verify.specs.Shape.{shape}
 use Rattle.td_stream.specs.StreamInvariant.{position, end_of}
 use Rattle.td_verify_runs.specs.Moves.{Ends}
-use Rattle.td_vm_step.specs.declared.activation.TraceRoom.{TraceRoom}
+use Rattle.td_vm.specs.Imports.{TraceRoom}
 use Rattle.td_stream.proofs.Stages.{later_trans, later_self}
 use Rattle.td_vm_step.proofs.Stretches.{lent_self, lent_trans, hold_on, ran_self}
 use Rattle.td_vm.specs.Exits.{exit_by}

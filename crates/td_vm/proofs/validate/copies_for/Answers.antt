@@ -2,7 +2,7 @@ use Rattle.std.proofs.Common.{arith, ◌≡◌, length, ap, ◌∙◌}
 use Rattle.std.proofs.lemmas.List.{length-map}
 use Rattle.td_num.specs.Numbers.{places_from}
 use Rattle.td_stream.specs.Copies.{empty_with}
-use Rattle.td_ir.specs.declared.tables.Parts.{Parts}
+use Rattle.td_vm.specs.Imports.{Parts}
 use Rattle.td_vm.specs.Need.{most_room, most_buffers, most_rooms}
 use Rattle.td_vm.proofs.Places.{length_places}
 use Rattle.td_vm.proofs.validate.copies_for.Goals as goal

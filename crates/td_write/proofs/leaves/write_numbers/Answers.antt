@@ -2,7 +2,7 @@ use Rattle.std.proofs.Common.{rules, ◌≡◌, ◌+◌, List, [], ◌∷◌, �
 use Rattle.std.proofs.lemmas.List.{drop_more, drop_all}
 use Rattle.td_write_values.specs.Datum.{Datum}
 use Rattle.td_write_values.specs.Writing.{items_written, number_written}
-use Rattle.td_write_values.specs.declared.error.WriteRule.TheVariants.{Size}
+use Rattle.td_write.specs.Imports.{Size}
 use Rattle.td_write.specs.declared.halt.Halt.TheVariants as halt
 use Rattle.td_write.proofs.Totals.{one_more, one_empty, all_written, halts_total, halts_items, halts_at}
 use Rattle.td_write.proofs.Listed.{popped}

@@ -5,8 +5,7 @@ use Rattle.td_write_values.specs.Datum.{Datum, Sequence, data_of}
 use Rattle.td_write_values.specs.DatumView.{datum_at}
 use Rattle.td_write_values.specs.Spelling.{ends_in_zero}
 use Rattle.td_write_values.specs.Writing.{Refused}
-use Rattle.td_write_values.specs.declared.error.WriteRule.TheVariants.{Broken}
-use Rattle.td_core.specs.declared.outcome.Reason.TheVariants.{Constraint}
+use Rattle.td_write.specs.Imports.{Broken, Constraint}
 use Rattle.td_write.proofs.Listed.{up_to_zero_shape, up_to_zero_halts, up_to_zero_bound, up_to_zero_done}
 use Rattle.td_write.proofs.leaves.write_up_to_zero.Goals as goal
 

@@ -5,7 +5,7 @@ use Rattle.td_core.specs.declared.outcome.Verdict.{Verdict}
 use Rattle.td_core.specs.Outcome.{Behavior}
 use Rattle.td_meaning.specs.Words64.{checked}
 use Rattle.td_meaning.specs.Verdicts.{ending_of}
-use Rattle.td_write_values.specs.declared.error.WriteRule.TheVariants.{Shape, Range, Broken, Long}
+use Rattle.td_write.specs.Imports.{Shape, Range, Broken, Long}
 use Rattle.td_write_values.specs.Datum.{Datum, Number}
 use Rattle.td_write_values.specs.Bytes.{fits}
 use Rattle.td_write_values.specs.Writing.{Refused, has_room, parts_written, in_machine}

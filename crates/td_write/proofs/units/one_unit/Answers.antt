@@ -1,13 +1,12 @@
 use Rattle.std.proofs.Common.{rules, ◌≡◌, ◌+◌, ℕ, List, [], ◌∷◌, ◌++◌, drop, length, true, false, sym, ap, ◌∙◌, arith, append_assoc, length-append}
 use Rattle.std.proofs.lemmas.List.{drop_more, drop_all}
-use Rattle.td_core.specs.declared.module.Part.{Part}
+use Rattle.td_write.specs.Imports.{Part, Range, Long}
 use Rattle.td_write_values.specs.Datum.{Datum}
 use Rattle.td_write_values.specs.Writing.{Written, parts_written, in_machine}
 use Rattle.std.proofs.lemmas.List.{append-nil}
 use Rattle.td_num.specs.Numbers.{bytes_in}
 use Rattle.td_write_values.specs.Bytes.{number_bytes, unit_number, makes_unit}
 use Rattle.td_write_values.specs.Writing.{Refused, after_writing, unit_then, has_room, wanted}
-use Rattle.td_write_values.specs.declared.error.WriteRule.TheVariants.{Range, Long}
 use Rattle.td_write.proofs.Pieces.{one_value, parts_none, all_left, twice_after}
 use Rattle.td_write_values.proofs.Lengths.{number_length}
 use Rattle.td_write.proofs.units.one_unit.Goals as goal

@@ -4,11 +4,9 @@ use Rattle.std.proofs.lemmas.Grind.{common_steps}
 use Rattle.std.specs.Prelude.{slice_get}
 use Rattle.td_num.specs.Numbers.{places_from}
 use Rattle.std.proofs.Math.Seq.{take-append_seam}
-use Rattle.td_core.specs.declared.outcome.Reason.TheVariants.{Impossible}
-use Rattle.td_core.specs.declared.outcome.Verdict.TheVariants.{Accept}
+use Rattle.td_write.specs.Imports.{Impossible, Accept, Broken}
 use Rattle.td_core.specs.Outcome.{copies_by}
 use Rattle.td_meaning.specs.Copies.{opened}
-use Rattle.td_write_values.specs.declared.error.WriteRule.TheVariants.{Broken}
 use Rattle.td_write_values.specs.Writing.{Done, Refused, after_writing, writers_below, writing, in_machine, whole}
 use Rattle.td_write.specs.Answers.{IsRefusal}
 use Rattle.td_write.specs.Writes.{Halts}
@@ -37,12 +35,12 @@ returns-in_ok-extend_from_slice-in-Ok-clause-ok c =
     let n = length a.cells.now in
     let all : List ℕ = opened m a.entry a.cells.now in
     let there : slice_get m.entries a.entry.number ≡ Some c.in-Some.place.now = grind (arith, common_steps, gets) in
-    let size : c.len.result ≡ length all = c.len.ensures ∙ c.in_ok-left.left.ok.0 ∙ ap length c.in_ok-left.ensures in
+    let size : c.len.result ≡ length all = c.len.ensures ∙ c.in_ok-left.left.ok.0 ∙ ap length c.in_ok-left.ensures.ok in
     let places : c.as_slice-2.result.now ≡ places_from 0 (length all) = c.as_slice-2.ensures.value ∙ c.in_ok-places.ensures.ok ∙ ap (places_from 0) size in
     let bound : c.len-2.result ≡ length m.definitions = search rules in
     let path : c.new-path.result.items ≡ [] = search rules in
     let none : c.new-written.result.items ≡ [] = search rules in
-    let left : c.as_mut_slice.result.now ≡ all = c.as_mut_slice.ensures.value ∙ c.in_ok-left.ensures in
+    let left : c.as_mut_slice.result.now ≡ all = c.as_mut_slice.ensures.value ∙ c.in_ok-left.ensures.ok in
     let bytes : List ℕ = c.named.new.draft.out.items in
     let last : List ℕ = c.named.new.cells in
     let named = c.in-Ok.ensures.ok in
@@ -67,12 +65,12 @@ returns-in-Err-clause-cause c =
     let m = a.m.now in
     let all : List ℕ = opened m a.entry a.cells.now in
     let there : slice_get m.entries a.entry.number ≡ Some c.in-Some.place.now = grind (arith, common_steps, gets) in
-    let size : c.len.result ≡ length all = c.len.ensures ∙ c.in_ok-left.left.ok.0 ∙ ap length c.in_ok-left.ensures in
+    let size : c.len.result ≡ length all = c.len.ensures ∙ c.in_ok-left.left.ok.0 ∙ ap length c.in_ok-left.ensures.ok in
     let places : c.as_slice-2.result.now ≡ places_from 0 (length all) = c.as_slice-2.ensures.value ∙ c.in_ok-places.ensures.ok ∙ ap (places_from 0) size in
     let bound : c.len-2.result ≡ length m.definitions = search rules in
     let path : c.new-path.result.items ≡ [] = search rules in
     let none : c.new-written.result.items ≡ [] = search rules in
-    let left : c.as_mut_slice.result.now ≡ all = c.as_mut_slice.ensures.value ∙ c.in_ok-left.ensures in
+    let left : c.as_mut_slice.result.now ≡ all = c.as_mut_slice.ensures.value ∙ c.in_ok-left.ensures.ok in
     let by_place : writing in_machine m a.entry a.args.now all a.value.now ≡ writers_below in_machine m.listed m.definitions c.len-2.result c.in-Some.place.now a.args.now c.as_slice-2.result.now c.as_mut_slice.result.now c.new-path.result.items (length c.new-written.result.items) a.value.now =
     writing_at m a.entry a.args.now all a.value.now in_machine c.in-Some.place.now there
     ∙ (λ j. writers_below in_machine m.listed m.definitions (sym bound j) c.in-Some.place.now a.args.now (sym places j) (sym left j) (sym path j) (length (sym none j)) a.value.now) in

@@ -4,7 +4,7 @@ use Rattle.td_ir.specs.Tables.{routine_of, cells_by, lengths_of, first_of}
 use Rattle.td_ir.specs.State.{State, after, registers_from}
 use Rattle.td_ir.specs.State as ir
 use Rattle.td_ir.specs.Run.{back, turns, places_by, entered, block}
-use Rattle.td_verify.specs.declared.shape.Shape.TheVariants.{Call, While}
+use Rattle.td_vm.specs.Imports.{Call, While}
 use Rattle.td_verify.specs.Shape.{shape, shapes_of}
 use Rattle.td_verify.specs.Brackets.{in_loop, window_bytes}
 use Rattle.td_stream.specs.Layouts.{length_in}

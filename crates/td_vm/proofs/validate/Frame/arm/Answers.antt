@@ -1,7 +1,7 @@
 use Rattle.std.proofs.Common.{◌≡◌, ◌+◌, length, map, ap, ◌∙◌, subst}
 use Rattle.td_stream.specs.Copies.{rooms_of, empty_with}
 use Rattle.td_stream.proofs.Rooms.{rooms_again}
-use Rattle.td_ir.specs.declared.tables.Parts.{Parts}
+use Rattle.td_vm.specs.Imports.{Parts}
 use Rattle.td_vm.specs.Need.{most_need, most_entry_cells, most_buffers, most_rooms, registers, cells, level}
 use Rattle.td_vm.specs.Frames.{AreBegins}
 use Rattle.td_vm.proofs.validate.Frame.arm.Goals as goal

@@ -1,6 +1,6 @@
 use Rattle.std.proofs.Common.{◌≡◌, length, ap, ◌∙◌, arith}
 use Rattle.td_stream.specs.Copies.{rooms_of}
-use Rattle.td_ir.specs.declared.tables.Parts.{Parts}
+use Rattle.td_vm.specs.Imports.{Parts}
 use Rattle.td_ir.specs.Entries.{buffers_of}
 use Rattle.td_vm.specs.Need.{entry_rooms, most_rooms}
 use Rattle.td_vm.specs.Frames.{FrameView}

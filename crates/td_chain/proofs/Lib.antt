@@ -1,0 +1,4 @@
+pub mod Finding
+pub mod Growing
+pub mod Holding
+pub mod Walking

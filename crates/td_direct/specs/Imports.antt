@@ -1,0 +1,25 @@
+-- Types of the crates below, by one path. Other crates don't see this file's names: a library passes on its own definitions alone.
+pub use Rattle.td_core.specs.declared.expressions.Scalar.{Scalar}
+pub use Rattle.td_core.specs.declared.module.Body.TheVariants.{Casetype, Struct}
+pub use Rattle.td_core.specs.declared.module.Buffer.{Buffer}
+pub use Rattle.td_core.specs.declared.module.CopyOut.{CopyOut}
+pub use Rattle.td_core.specs.declared.module.Element.{Element}
+pub use Rattle.td_core.specs.declared.module.Element.TheVariants.{Listed, Named, Number, Rest, Unit, Zeros}
+pub use Rattle.td_core.specs.declared.module.Entry.{Entry}
+pub use Rattle.td_core.specs.declared.module.Extent.{Extent}
+pub use Rattle.td_core.specs.declared.module.Extent.TheVariants.{Filling, Once, OnceFilling, UpToZero}
+pub use Rattle.td_core.specs.declared.module.Field.{Field}
+pub use Rattle.td_core.specs.declared.module.Module.{Module}
+pub use Rattle.td_core.specs.declared.module.NameId.{NameId}
+pub use Rattle.td_core.specs.declared.module.Part.{Part}
+pub use Rattle.td_core.specs.declared.module.TypeDef.{TypeDef}
+pub use Rattle.td_core.specs.declared.outcome.Outcome.{Outcome}
+pub use Rattle.td_core.specs.declared.outcome.Reason.{Reason}
+pub use Rattle.td_core.specs.declared.outcome.Reason.TheVariants.{Action, Constraint, Impossible, ListSize, NotEnough, Padding}
+pub use Rattle.td_core.specs.declared.outcome.TraceFrame.{TraceFrame}
+pub use Rattle.td_core.specs.declared.outcome.Verdict.{Verdict}
+pub use Rattle.td_core.specs.declared.outcome.Verdict.TheVariants.{Accept, Reject}
+pub use Rattle.td_num.specs.declared.number.NumberType.{NumberType}
+pub use Rattle.td_stream.specs.declared.load.Load.{Load}
+pub use Rattle.td_stream.specs.declared.stream.Stream.{Stream}
+pub use Rattle.td_stream.specs.declared.stretch.Stretch.{Stretch}

@@ -1,0 +1,20 @@
+-- Types of the crates below, by one path. Other crates don't see this file's names: a library passes on its own definitions alone.
+pub use Rattle.td_core.specs.declared.module.Body.{Body}
+pub use Rattle.td_core.specs.declared.module.Body.TheVariants.{Casetype, Struct}
+pub use Rattle.td_core.specs.declared.module.Buffer.{Buffer}
+pub use Rattle.td_core.specs.declared.module.Case.{Case}
+pub use Rattle.td_core.specs.declared.module.Cell.{Cell}
+pub use Rattle.td_core.specs.declared.module.CopyOut.{CopyOut}
+pub use Rattle.td_core.specs.declared.module.Element.{Element}
+pub use Rattle.td_core.specs.declared.module.Element.TheVariants.{Listed, Named, Number, Rest, Unit, Zeros}
+pub use Rattle.td_core.specs.declared.module.Field.{Field}
+pub use Rattle.td_core.specs.declared.module.Module.{Module}
+pub use Rattle.td_core.specs.declared.module.NameId.{NameId}
+pub use Rattle.td_core.specs.declared.module.Param.{Param}
+pub use Rattle.td_core.specs.declared.module.Part.{Part}
+pub use Rattle.td_core.specs.declared.module.TypeDef.{TypeDef}
+pub use Rattle.td_ir.specs.declared.instructions.Instr.{Instr}
+pub use Rattle.td_ir.specs.declared.tables.EntryPoint.{EntryPoint}
+pub use Rattle.td_ir.specs.declared.tables.Parts.{Parts}
+pub use Rattle.td_ir.specs.declared.tables.Routine.{Routine}
+pub use Rattle.td_ir.specs.declared.tables.Site.{Site}

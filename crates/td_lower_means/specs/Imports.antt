@@ -1,0 +1,30 @@
+-- Types of the crates below, by one path. Other crates don't see this file's names: a library passes on its own definitions alone.
+pub use Rattle.td_core.specs.declared.expressions.Binary.{Binary}
+pub use Rattle.td_core.specs.declared.expressions.Binary.TheVariants.{Add, BitAnd, BitOr, BitXor, Divide, Multiply, Remainder, ShiftLeft, ShiftRight, Subtract}
+pub use Rattle.td_core.specs.declared.expressions.Relation.{Relation}
+pub use Rattle.td_core.specs.declared.expressions.Relation.TheVariants.{Equal, Greater, GreaterEqual, Less, LessEqual, NotEqual}
+pub use Rattle.td_core.specs.declared.module.Bits.{Bits}
+pub use Rattle.td_core.specs.declared.module.Body.{Body}
+pub use Rattle.td_core.specs.declared.module.Body.TheVariants.{Casetype, Struct}
+pub use Rattle.td_core.specs.declared.module.Case.{Case}
+pub use Rattle.td_core.specs.declared.module.CopyOut.{CopyOut}
+pub use Rattle.td_core.specs.declared.module.Element.{Element}
+pub use Rattle.td_core.specs.declared.module.Element.TheVariants.{Listed, Named, Number, Rest, Unit, Zeros}
+pub use Rattle.td_core.specs.declared.module.Entry.{Entry}
+pub use Rattle.td_core.specs.declared.module.Extent.{Extent}
+pub use Rattle.td_core.specs.declared.module.Extent.TheVariants.{Filling, Once, OnceFilling, UpToZero}
+pub use Rattle.td_core.specs.declared.module.Field.{Field}
+pub use Rattle.td_core.specs.declared.module.Module.{Module}
+pub use Rattle.td_core.specs.declared.module.NameId.{NameId}
+pub use Rattle.td_core.specs.declared.module.Param.{Param}
+pub use Rattle.td_core.specs.declared.module.Part.{Part}
+pub use Rattle.td_core.specs.declared.module.TypeDef.{TypeDef}
+pub use Rattle.td_core.specs.declared.outcome.Reason.{Reason}
+pub use Rattle.td_core.specs.declared.outcome.Reason.TheVariants.{Action, Constraint, Impossible, ListSize, NotEnough}
+pub use Rattle.td_ir.specs.declared.instructions.Instr.{Instr}
+pub use Rattle.td_ir.specs.declared.tables.Parts.{Parts}
+pub use Rattle.td_num.specs.declared.number.ByteOrder.{ByteOrder}
+pub use Rattle.td_num.specs.declared.number.ByteOrder.TheVariants.{BigEndian, LittleEndian}
+pub use Rattle.td_num.specs.declared.number.NumberType.{NumberType}
+pub use Rattle.td_num.specs.declared.number.Width.{Width}
+pub use Rattle.td_num.specs.declared.number.Width.TheVariants.{Eight, Four, One, Two}

@@ -1,0 +1,32 @@
+-- Types of the crates below, by one path. Other crates don't see this file's names: a library passes on its own definitions alone.
+pub use Rattle.td_core.specs.declared.expressions.Binary.{Binary}
+pub use Rattle.td_core.specs.declared.expressions.Binary.TheVariants.{Add, BitAnd, BitOr, BitXor, Divide, Multiply, Remainder, ShiftLeft, ShiftRight, Subtract}
+pub use Rattle.td_core.specs.declared.expressions.Relation.TheVariants.{Equal, GreaterEqual, LessEqual}
+pub use Rattle.td_core.specs.declared.expressions.Scalar.{Scalar}
+pub use Rattle.td_core.specs.declared.expressions.Scalar.TheVariants.{Eight, Sixteen, ThirtyTwo}
+pub use Rattle.td_core.specs.declared.module.Bits.{Bits}
+pub use Rattle.td_core.specs.declared.module.Body.{Body}
+pub use Rattle.td_core.specs.declared.module.Body.TheVariants.{Casetype, Struct}
+pub use Rattle.td_core.specs.declared.module.Buffer.{Buffer}
+pub use Rattle.td_core.specs.declared.module.Case.{Case}
+pub use Rattle.td_core.specs.declared.module.CopyOut.{CopyOut}
+pub use Rattle.td_core.specs.declared.module.Element.{Element}
+pub use Rattle.td_core.specs.declared.module.Element.TheVariants.{Listed, Named, Number, Rest, Unit, Zeros}
+pub use Rattle.td_core.specs.declared.module.Entry.{Entry}
+pub use Rattle.td_core.specs.declared.module.Extent.{Extent}
+pub use Rattle.td_core.specs.declared.module.Extent.TheVariants.{Filling, Once, OnceFilling, UpToZero}
+pub use Rattle.td_core.specs.declared.module.Field.{Field}
+pub use Rattle.td_core.specs.declared.module.Module.{Module}
+pub use Rattle.td_core.specs.declared.module.NameId.{NameId}
+pub use Rattle.td_core.specs.declared.module.Part.{Part}
+pub use Rattle.td_core.specs.declared.module.TypeDef.{TypeDef}
+pub use Rattle.td_core.specs.declared.outcome.Outcome.{Outcome}
+pub use Rattle.td_core.specs.declared.outcome.Reason.{Reason}
+pub use Rattle.td_core.specs.declared.outcome.Reason.TheVariants.{Action, Constraint, Impossible, ListSize, NotEnough, Padding}
+pub use Rattle.td_core.specs.declared.outcome.Spot.{Spot}
+pub use Rattle.td_core.specs.declared.outcome.TraceFrame.{TraceFrame}
+pub use Rattle.td_core.specs.declared.outcome.Verdict.{Verdict}
+pub use Rattle.td_core.specs.declared.outcome.Verdict.TheVariants.{Accept, Reject}
+pub use Rattle.td_num.specs.declared.number.ByteOrder.TheVariants.{BigEndian, LittleEndian}
+pub use Rattle.td_num.specs.declared.number.NumberType.{NumberType}
+pub use Rattle.td_num.specs.declared.number.Width.TheVariants.{Four, One, Two}

@@ -1,0 +1,6 @@
+use Rattle.std.proofs.Common.{refl}
+use Rattle.td_prog_emit.proofs.Texts.{joined, recut}
+use Rattle.td_prog_emit.proofs.parts_prelude.push_little_4.Goals as goal
+
+pub returns : goal.returns
+returns c parts = recut (joined (c.in_ok-push_begin.ensures {u = tt}) (joined (c.in_ok-push_more.ensures {u = tt}) (joined (c.in_ok-push_more-2.ensures {u = tt}) (joined (c.in_ok-push_more-3.ensures {u = tt}) c.push.ensures)))) refl

@@ -1,0 +1,6 @@
+mod Helpers
+mod OpenLoops
+mod Rooms
+mod Statements
+mod Blocks
+mod Chains

@@ -1,0 +1,4 @@
+pub mod Chains
+pub mod Depth
+pub mod Laws
+pub mod Counted

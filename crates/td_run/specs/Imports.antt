@@ -1,0 +1,7 @@
+-- Types of the crates below, by one path. Other crates don't see this file's names: a library passes on its own definitions alone.
+pub use Rattle.td_core.specs.declared.module.Entry.{Entry}
+pub use Rattle.td_core.specs.declared.outcome.Outcome.{Outcome}
+pub use Rattle.td_ir.specs.declared.tables.Parts.{Parts}
+pub use Rattle.td_sched.specs.declared.store.PlannedStore.{PlannedStore}
+pub use Rattle.td_stream.specs.declared.load.Load.{Load}
+pub use Rattle.td_stream.specs.declared.stretch.Stretch.{Stretch}

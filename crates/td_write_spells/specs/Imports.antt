@@ -1,0 +1,24 @@
+-- Types of the crates below, by one path. Other crates don't see this file's names: a library passes on its own definitions alone.
+pub use Rattle.td_core.specs.declared.kind.Kind.{Kind}
+pub use Rattle.td_core.specs.declared.module.Body.{Body}
+pub use Rattle.td_core.specs.declared.module.Body.TheVariants.{Casetype, Struct}
+pub use Rattle.td_core.specs.declared.module.Case.{Case}
+pub use Rattle.td_core.specs.declared.module.CopyOut.{CopyOut}
+pub use Rattle.td_core.specs.declared.module.Element.{Element}
+pub use Rattle.td_core.specs.declared.module.Extent.{Extent}
+pub use Rattle.td_core.specs.declared.module.Extent.TheVariants.{Filling, Once, OnceFilling, UpToZero}
+pub use Rattle.td_core.specs.declared.module.Field.{Field}
+pub use Rattle.td_core.specs.declared.module.Module.{Module}
+pub use Rattle.td_core.specs.declared.module.NameId.{NameId}
+pub use Rattle.td_core.specs.declared.module.Part.{Part}
+pub use Rattle.td_core.specs.declared.module.TypeDef.{TypeDef}
+pub use Rattle.td_core.specs.declared.outcome.Reason.{Reason}
+pub use Rattle.td_core.specs.declared.outcome.Reason.TheVariants.{Action, Constraint, Impossible, ListSize, NotEnough}
+pub use Rattle.td_kinds.specs.declared.error.KindFault.TheVariants.{RestNotLast, ZeroElement}
+pub use Rattle.td_num.specs.declared.number.ByteOrder.{ByteOrder}
+pub use Rattle.td_num.specs.declared.number.ByteOrder.TheVariants.{BigEndian, LittleEndian}
+pub use Rattle.td_num.specs.declared.number.NumberType.{NumberType}
+pub use Rattle.td_num.specs.declared.number.Width.{Width}
+pub use Rattle.td_num.specs.declared.number.Width.TheVariants.{Eight, Four, One, Two}
+pub use Rattle.td_write_values.specs.declared.error.WriteRule.{WriteRule}
+pub use Rattle.td_write_values.specs.declared.error.WriteRule.TheVariants.{Broken, Long, Range, Shape, Size}
