@@ -1,7 +1,9 @@
 # SPDX-License-Identifier: Apache-2.0 OR MIT
 # `make install PREFIX=/usr/local`: the proved program, the scripts beside it, their manual pages, completion and editors' files.
-# `make install-library`, `make install-pack`: the library for C, and with the compiler of 3D texts (capi/Makefile).
-# What is proved and built before: `./td` (crates/td/out/td), and `./tdc` (crates/tdc/out/tdc), which is installed if it is there; `rt lib` in crates/td_c and crates/td_c_pack.
+# `make install-library`, `make install-pack`, `make install-chain`: the library for C, with the compiler of 3D texts, and the walk along
+# a virtqueue's chains (capi/Makefile).
+# What is proved and built before: `./td` (crates/td/out/td), and `./tdc` (crates/tdc/out/tdc), which is installed if it is there; `rt lib`
+# in crates/td_c, crates/td_c_pack and crates/td_c_chain.
 PREFIX = /usr/local
 DESTDIR =
 bindir = $(PREFIX)/bin
@@ -21,7 +23,7 @@ AT = $(DESTDIR)$(libdir)/td
 DOCS = README.md LICENSE CHANGELOG.md
 CAPI = $(MAKE) -C capi PREFIX=$(PREFIX) DESTDIR=$(DESTDIR) libdir=$(libdir) mandir=$(mandir)
 
-.PHONY: install install-scripts install-library install-pack uninstall
+.PHONY: install install-scripts install-library install-pack install-chain uninstall
 install: $(PROGRAM) install-scripts
 	install -d $(AT)/libexec
 	install -m 755 $(PROGRAM) $(AT)/libexec/td
@@ -50,6 +52,9 @@ install-library:
 
 install-pack:
 	$(CAPI) install install-pack
+
+install-chain:
+	$(CAPI) install-chain
 
 $(PROGRAM):
 	@echo "$@ isn't built: run ./td check </dev/null first, or make install-scripts" >&2; exit 1

@@ -59,7 +59,6 @@ enum { FIRST_ethernet, FIRST_ipv4, FIRST_tcp, FIRST_rndis };
 FORMATS_OF(LOOP, by_hand)
 FORMATS_OF(LOOP, written)
 FORMATS_OF(LOOP, inlined)
-FORMATS_OF(LOOP, by_script)
 #ifndef WITHOUT_LIBRARY
 FORMATS_OF(LOOP, by_library)
 #endif
@@ -74,7 +73,7 @@ typedef struct {
   {#NAME,                                                                          \
    {loop_##NAME##_ethernet, loop_##NAME##_ipv4, loop_##NAME##_tcp, loop_##NAME##_rndis}, \
    {answer_##NAME##_ethernet, answer_##NAME##_ipv4, answer_##NAME##_tcp, answer_##NAME##_rndis}},
-static const way ways[] = {WAY(by_hand) WAY(written) WAY(inlined) WAY(by_script)
+static const way ways[] = {WAY(by_hand) WAY(written) WAY(inlined)
 #ifndef WITHOUT_LIBRARY
                                WAY(by_library)
 #endif

@@ -15,10 +15,9 @@
   X(WAY, rndis, (const uint64_t *words, uint32_t length, uint32_t room, struct rndis_RNDIS_r *r, struct td_outcome *outcome))
 #define DECLARED(WAY, FORMAT, PARAMETERS) bool WAY##_##FORMAT PARAMETERS;
 
-/* The C that tdc writes, as it is and with its functions inlined whatever their size; that of tools/image_to_c; the library with images; by hand. */
+/* The C that tdc writes, as it is and with its functions inlined whatever their size; the library with images; by hand. */
 FORMATS_OF(DECLARED, written)
 FORMATS_OF(DECLARED, inlined)
-FORMATS_OF(DECLARED, by_script)
 FORMATS_OF(DECLARED, by_library)
 FORMATS_OF(DECLARED, by_hand)
 

@@ -1,11 +1,11 @@
 /* SPDX-License-Identifier: Apache-2.0 OR MIT
    td.h: messages in memory that others keep storing to, validated by verified code.
 
-   A session is opened once, from an image (`td pack <MODULE >IMAGE`). From then on only td_again, td_validate_parts and the
-   calls that open codes, seats and their sessions ask for memory, and no call waits for anybody. Each 64-bit word of a
-   message is loaded at most once, by one atomic load, and only where a byte of it is looked at; nothing is expected of what
-   a load gives. docs/c-library.md says what a program owes, and what is proved. Each function answers a td_code, but for
-   those that close and td_reason_word. */
+   A session is opened once, from an image (`td pack <MODULE >IMAGE`). From then on only td_again, td_validate_parts, td_room,
+   td_validate_pieces and the calls that open codes, seats and their sessions ask for memory, and no call waits for anybody.
+   Each 64-bit word of a message is loaded at most once, by one atomic load, and only where a byte of it is looked at; nothing
+   is expected of what a load gives. docs/c-library.md says what a program owes, and what is proved. Each function answers a
+   td_code, but for those that close, td_piece_at and td_reason_word. */
 #ifndef TD_H
 #define TD_H
 
@@ -30,8 +30,8 @@ typedef enum {
                        frame, or there is no such code */
   TD_PAST = 6,      /* the message doesn't lie within the words; nothing was loaded */
   TD_POINTER = 7,   /* a pointer is null, that of the words isn't aligned to 8, or what has to be two handles is one */
-  TD_TOO_MUCH = 8,  /* a message of more than 64 stretches, or of 2^32 bytes and more, and nothing was loaded; more than
-                       17 codes */
+  TD_TOO_MUCH = 8,  /* a message of more than 64 stretches or 1,024 pieces, or of 2^32 bytes and more, and nothing was
+                       loaded; room for more than 1,024 pieces; more than 17 codes */
   TD_I1 = 11,       /* the bytes are no image */
   TD_I2 = 12,       /* unknown version */
   TD_I3 = 13,       /* the image is too short: the place is its length */
@@ -91,7 +91,26 @@ typedef struct { const uint64_t *at; size_t count; } td_words;
 /* Bytes of the words that stand one after the other. */
 typedef struct { uint32_t place, size; } td_stretch;
 
-/* A load that was made: the stretch, from 0 (0 where the message is one), the word of the words, and what the load gave. */
+/* Headers of written C have the same lines: the first that is included counts. */
+#ifndef TD_PIECE
+#define TD_PIECE
+/* A piece of a message: `size` bytes, of which the first is byte `place` of these words. */
+struct td_piece {
+  const uint64_t *words;
+  uint32_t place;
+  uint32_t size;
+};
+#endif
+typedef struct td_piece td_piece;
+
+/* A message has so many pieces at most. */
+enum { TD_MOST_PIECES = 1024 };
+
+/* A piece as the library takes it: the words that hold a byte of it, and twice how many these are. */
+typedef struct { td_words words; size_t count; uint32_t place, size; } td_c_piece;
+
+/* A load that was made: the stretch or piece, from 0 (0 where the message is one), the word of the words, and what the load
+   gave. */
 typedef struct { uint32_t stretch, word; uint64_t value; } td_load;
 
 /* Codes of which one is published after the other, so that a validator is replaced while others validate (a handle as
@@ -115,6 +134,9 @@ int32_t td_c_name(td_session *s, bool full, uint32_t number, uint8_t *bytes, siz
 int32_t td_c_validate(td_session *s, bool full, td_call *call, td_words *words, size_t count, td_load *loads, size_t room);
 int32_t td_c_validate_parts(td_session *s, bool full, td_call *call, const td_stretch *parts, size_t part_count, td_words *words,
                             size_t count, td_load *loads, size_t room);
+int32_t td_c_room(td_session *s, bool full, size_t count);
+int32_t td_c_validate_pieces(td_session *s, bool full, td_call *call, td_c_piece *pieces, size_t piece_count, td_load *loads,
+                             size_t room);
 int32_t td_c_codes_1(td_session *s, bool full);
 int32_t td_c_add(td_session *s, bool full, const uint8_t *image, size_t size, td_fault *fault);
 int32_t td_c_begin(td_session *s, bool full);
@@ -226,6 +248,45 @@ static inline int32_t td_validate_parts(td_session *s, const uint64_t *words, si
                                         size_t part_count, td_call *call) {
   td_load none = {0, 0, 0};
   return td_validate_parts_loads(s, words, count, parts, part_count, call, &none, 0);
+}
+
+/* The piece of so many bytes that begins at any byte of memory. */
+static inline td_piece td_piece_at(const void *bytes, uint32_t size) {
+  uint32_t place = (uint32_t)((uintptr_t)bytes % 8);
+  td_piece piece = {(const uint64_t *)(const void *)((const char *)bytes - place), place, size};
+  return piece;
+}
+
+/* Takes room for messages of so many pieces, at most 1,024. The handle keeps it until it is closed, or opened again. */
+static inline int32_t td_room(td_session *s, size_t piece_count) {
+  if (!s) return TD_POINTER;
+  return td_c_room(s, s->full, piece_count);
+}
+
+/* The same for a message of pieces, one after the other, each with words of its own: anywhere in memory, in other mappings,
+   however far apart. They are at most 1,024. Only words that hold a byte of a piece are loaded. A load's stretch is the piece,
+   and its word is of that piece's words. This takes 32 KiB of stack; and memory before the first load, if the handle has no
+   room for so many pieces yet, which it keeps. */
+static inline int32_t td_validate_pieces_loads(td_session *s, const td_piece *pieces, size_t piece_count, td_call *call,
+                                               td_load *loads, size_t room) {
+  td_c_piece all[TD_MOST_PIECES + 1]; /* one too many is refused */
+  size_t count = piece_count <= TD_MOST_PIECES ? piece_count : TD_MOST_PIECES + 1;
+  if (!s || !call || !pieces || !loads) return TD_POINTER;
+  for (size_t k = 0; k < count; k++) {
+    const td_piece *p = &pieces[k];
+    all[k].count = ((size_t)p->place + p->size + 7) / 8;
+    if ((!p->words && all[k].count) || (uintptr_t)p->words % 8) return TD_POINTER;
+    all[k].words.at = p->words;
+    all[k].words.count = all[k].count;
+    all[k].place = p->place;
+    all[k].size = p->size;
+  }
+  return td_c_validate_pieces(s, s->full, call, all, count, loads, room);
+}
+
+static inline int32_t td_validate_pieces(td_session *s, const td_piece *pieces, size_t piece_count, td_call *call) {
+  td_load none = {0, 0, 0};
+  return td_validate_pieces_loads(s, pieces, piece_count, call, &none, 0);
 }
 
 /* A handle for codes, which has none yet. What it held before is freed. */

@@ -102,6 +102,41 @@ static void stretches(td_session *s, uint32_t entry) {
   unchanged(&call, &before);
 }
 
+/* Type and length in one array, what follows in another; and pieces that are no message. */
+static void pieces(td_session *s, uint32_t entry) {
+  static td_piece many_pieces[1025];
+  uint64_t head[2] = {0, words[0]}, tail[6] = {0, words[1]};
+  td_load seen[8] = {{9, 9, 9}}, none = {0, 0, 0};
+  td_call call = asked(entry);
+  td_piece two[2] = {{head, 8, 8}, {tail, 8, 40}}, long_ones[2] = {{head, 0, 0xffffffff}, {head, 0, 1}};
+  row("a message in two pieces", TD_ACCEPTED, td_validate_pieces_loads(s, two, 2, &call, seen, 8));
+  row("where its first load is", 1, seen[0].stretch == 0 && seen[0].word == 1 && seen[0].value == words[0]);
+  row("where its second load is", 1, seen[1].stretch == 1 && seen[1].word == 1 && seen[1].value == words[1]);
+  call = asked(entry);
+  td_call before = call;
+  row("more pieces than a message has", TD_TOO_MUCH, td_validate_pieces(s, many_pieces, 1025, &call));
+  unchanged(&call, &before);
+  row("pieces of 2^32 bytes", TD_TOO_MUCH, td_validate_pieces(s, long_ones, 2, &call));
+  td_c_piece far[2] = {{{head, 2}, 2, 8, 8}, {{tail, 6}, 6, 16, 40}};
+  row("a piece that ends after its words", TD_PAST, td_c_validate_pieces(s, s->full, &call, far, 2, &none, 0));
+  unchanged(&call, &before);
+  row("and the pieces are as before", 1, far[0].words.at == head && far[1].words.at == tail && far[1].words.count == 6 && far[1].place == 16);
+  td_piece uneven = {(const uint64_t *)(const void *)((const char *)head + 4), 0, 8}, null = {0, 0, 8};
+  row("a piece whose words aren't aligned", TD_POINTER, td_validate_pieces(s, &uneven, 1, &call));
+  row("a piece at null", TD_POINTER, td_validate_pieces(s, &null, 1, &call));
+  row("null pieces", TD_POINTER, td_validate_pieces(s, 0, 1, &call));
+  row("1,024 pieces without a byte", TD_REJECTED, td_validate_pieces(s, many_pieces, 1024, &call));
+  row("room for as many pieces as a message has", TD_DONE, td_room(s, TD_MOST_PIECES));
+  row("room for one more", TD_TOO_MUCH, td_room(s, TD_MOST_PIECES + 1));
+  row("a message in pieces, in this room", TD_ACCEPTED, td_validate_pieces(s, two, 2, &call));
+  td_session closed = {0};
+  row("room of a closed handle", TD_CLOSED, td_room(&closed, TD_MOST_PIECES + 1));
+  row("room of no handle", TD_POINTER, td_room(0, 1));
+  row("a closed handle, and too many pieces", TD_CLOSED, td_validate_pieces(&closed, many_pieces, 1025, &call));
+  td_piece here = td_piece_at((const char *)words + 3, 6);
+  row("a piece at any byte", 1, here.words == words && here.place == 3 && here.size == 6);
+}
+
 static void wrong_uses(td_session *s, uint32_t entry) {
   td_session none = {0};
   td_call call = asked(entry);
@@ -177,6 +212,7 @@ int main(int argc, char **argv) {
   validations(&s, entry);
   loads(&s, entry);
   stretches(&s, entry);
+  pieces(&s, entry);
   wrong_uses(&s, entry);
   images(bytes, size);
   td_close(&s);

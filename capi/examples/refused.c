@@ -7,6 +7,20 @@ static uint64_t words[8] = {1 | (uint64_t)48 << 32, 36 | (uint64_t)4 << 32};
 static uint8_t bytes[1 << 22];
 static size_t size;
 
+/* The message in pieces of a byte each, by a session without room, again by the same, and by one that took its room before: only the
+   first of these validations takes memory. */
+static int32_t round_of_pieces(td_session *s, td_session *other, td_call *call) {
+  td_piece pieces[48];
+  for (size_t i = 0; i < 48; i++) pieces[i] = td_piece_at((const char *)words + i, 1);
+  int32_t code = td_validate_pieces(s, pieces, 48, call);
+  if (!code) code = td_room(other, 48);
+  long before = allocations;
+  if (!code) code = td_validate_pieces(s, pieces, 48, call);
+  if (!code) code = td_validate_pieces(other, pieces, 48, call);
+  if (allocations != before) stop("a validation of pieces took memory", allocations - before);
+  return code;
+}
+
 /* Opens, takes a second session, validates by both, and closes them. The first answer that isn't TD_DONE. */
 static int32_t round_of(td_session *s, td_session *other) {
   td_fault fault = {0};
@@ -23,6 +37,7 @@ static int32_t round_of(td_session *s, td_session *other) {
   if (allocations != before) stop("a validation took memory", allocations - before);
   static const td_stretch parts[2] = {{0, 20}, {20, 28}};
   if (!code) code = td_validate_parts(s, words, 8, parts, 2, &call);
+  if (!code) code = round_of_pieces(s, other, &call);
   td_close(other);
   td_close(s);
   return code;

@@ -1,4 +1,4 @@
-"""Written C (of tdc, and of tools/image_to_c), compiled and called: each load of a word goes through a function that keeps it, and that stores as other
+"""Written C (of tdc, and of images), compiled and called: each load of a word goes through a function that keeps it, and that stores as other
 threads would."""
 
 import ctypes
@@ -7,7 +7,6 @@ import shutil
 import subprocess
 
 from codes import NO_FIELD
-from program import TOP
 
 # These compilers say nothing with these flags.
 COMPILERS = ("cc", "gcc", "clang")
@@ -81,15 +80,6 @@ def compilers():
     return list(found.values()), missing
 
 
-def image_to_c(folder, name, image):
-    """Writes an image as NAME.c and NAME.h of a folder; what the script complains of, or an empty text."""
-    path = os.path.join(folder, name + ".image")
-    with open(path, "wb") as file:
-        file.write(image)
-    ended = subprocess.run([os.path.join(TOP, "tools/image_to_c"), path, os.path.join(folder, name)], capture_output=True, check=False)
-    return "" if ended.returncode == 0 and not ended.stdout else "status %d: %s" % (ended.returncode, ended.stderr.decode())
-
-
 def compiled(compiler, words):
     """What a compiler complains of; an empty text where it doesn't."""
     ended = subprocess.run([compiler, *words], capture_output=True, check=False)
@@ -97,43 +87,19 @@ def compiled(compiler, words):
     return said or ("status %d" % ended.returncode if ended.returncode else "")
 
 
-class Validator:
-    """The functions of an image's C, in a library that is loaded here. `is_watched`: loads are kept, and stores are made."""
+class Functions:
+    """The functions of a file of C, in a library that is loaded here; `complaint` is what the compiler said, or empty."""
 
-    def __init__(self, folder, name, code, compiler, is_watched):
-        self.code, self.name, self.is_watched = code, name, is_watched
-        base = os.path.join(folder, name)
-        library = "%s.%s.%d.so" % (base, compiler, is_watched)
-        words = [*FLAGS, "-O1" if is_watched else "-O2", "-fPIC", "-shared", base + ".c", "-o", library]
-        if is_watched:
-            for end, text in ((".hook.h", HOOK), (".loads.c", LOADS)):
-                with open(base + end, "w", encoding="ascii") as file:
-                    file.write(text)
-            words += [*SANITIZED, "-include", base + ".hook.h", base + ".loads.c"]
-        self.complaint = compiled(compiler, words)
+    def __init__(self, source, library, compiler, words, code, name):
+        self.code, self.name = code, name
+        self.complaint = compiled(compiler, [*FLAGS, *words, "-fPIC", "-shared", source, "-o", library])
         self.library = None if self.complaint else ctypes.CDLL(library)
 
-    def watch(self, words, last, overwrites, stores):
-        """`last` is the byte of the words at which the message ends."""
-        numbers = [number for store in sorted(stores, key=lambda store: store[0]) for number in store]
-        self.plan = (ctypes.c_uint64 * max(1, len(numbers)))(*numbers)
-        sizes = map(ctypes.c_uint64, (-(-last // 8), overwrites, len(stores)))
-        count, overwrites, stores = sizes
-        self.library.test_begin(words, count, overwrites, self.plan, stores)
-
-    def loads(self):
-        if not self.is_watched:
-            return None
-        self.library.test_loads.restype = ctypes.c_uint64
-        loaded = (ctypes.c_uint64 * 2 * MOST_LOADS).in_dll(self.library, "loaded")
-        return [(loaded[k][0], loaded[k][1]) for k in range(self.library.test_loads())]
-
-    def run(self, entry, arguments, cells, memory, length, overwrites=False, stores=(), lead=0):
-        """How a run ends: verdict, position, frames, cells, copies and loads. The message begins behind `lead` bytes of the memory."""
+    def call(self, entry, first, end, arguments, cells, loads):
+        """How a call ends: verdict, position, frames, cells, copies, and what `loads` answers after it. `first` are the arguments that say where the
+        message is, and `end` is how the function's name ends."""
         routine, params, own_cells = self.code.entries[entry][:3]
         rooms = self.code.routines[routine][5:]
-        padded = memory + bytes(-len(memory) % 8)
-        words = (ctypes.c_uint64 * max(1, len(padded) // 8)).from_buffer_copy(padded or bytes(8))
         records = {}
         for number, (name, field, bits) in enumerate(own_cells):
             key = number if field == NO_FIELD else "of %d" % name
@@ -149,11 +115,9 @@ class Validator:
         given += [ctypes.byref(struct) for struct in structs + copies]
         # In the names of C a `_` stands in the place of the dot that the types of parts have.
         entry_name = self.code.name(self.code.routines[routine][0]).replace(".", "_")
-        call = getattr(self.library, "%s_validate_%s" % (self.name, entry_name))
-        call.restype = ctypes.c_bool
-        if self.is_watched:
-            self.watch(words, lead + length, overwrites, stores)
-        accepted = call(ctypes.byref(words, lead), ctypes.c_uint32(length), *given, ctypes.byref(outcome))
+        function = getattr(self.library, "%s_validate_%s%s" % (self.name, entry_name, end))
+        function.restype = ctypes.c_bool
+        accepted = function(*first, *given, ctypes.byref(outcome))
         left = {name: getattr(struct, name) for struct in structs for name, _ in struct._fields_}
         frames = [outcome.frame[k] for k in range(outcome.count)]
         return Ended(
@@ -162,8 +126,68 @@ class Validator:
             [(frame.type.decode(), frame.field.decode(), frame.start) for frame in frames],
             [left["n%d" % number] for number in range(len(own_cells))],
             [bytes(copy.bytes[: copy.count]) for copy in copies],
-            self.loads(),
+            loads(),
         )
+
+
+def words_in(memory):
+    padded = memory + bytes(-len(memory) % 8)
+    return (ctypes.c_uint64 * max(1, len(padded) // 8)).from_buffer_copy(padded or bytes(8))
+
+
+class Validator(Functions):
+    """The functions of NAME.c. `is_watched`: loads are kept, stores are made, and what C leaves undefined ends the check."""
+
+    def __init__(self, folder, name, code, compiler, is_watched):
+        self.is_watched = is_watched
+        base = os.path.join(folder, name)
+        words = ["-O1" if is_watched else "-O2"]
+        if is_watched:
+            for end, text in ((".hook.h", HOOK), (".loads.c", LOADS)):
+                with open(base + end, "w", encoding="ascii") as file:
+                    file.write(text)
+            words += [*SANITIZED, "-include", base + ".hook.h", base + ".loads.c"]
+        super().__init__(base + ".c", "%s.%s.%d.so" % (base, compiler, is_watched), compiler, words, code, name)
+
+    def watch(self, words, length, overwrites, stores):
+        numbers = [number for store in sorted(stores, key=lambda store: store[0]) for number in store]
+        self.plan = (ctypes.c_uint64 * max(1, len(numbers)))(*numbers)
+        sizes = map(ctypes.c_uint64, (-(-length // 8), overwrites, len(stores)))
+        count, overwrites, stores = sizes
+        self.library.test_begin(words, count, overwrites, self.plan, stores)
+
+    def loads(self):
+        if not self.is_watched:
+            return None
+        self.library.test_loads.restype = ctypes.c_uint64
+        loaded = (ctypes.c_uint64 * 2 * MOST_LOADS).in_dll(self.library, "loaded")
+        return [(loaded[k][0], loaded[k][1]) for k in range(self.library.test_loads())]
+
+    def run(self, entry, arguments, cells, memory, length, overwrites=False, stores=()):
+        """How a run over the first bytes of the memory ends."""
+        words = words_in(memory)
+        if self.is_watched:
+            self.watch(words, length, overwrites, stores)
+        return self.call(entry, (words, ctypes.c_uint32(length)), "", arguments, cells, self.loads)
+
+
+class Piece(ctypes.Structure):
+    _fields_ = [("words", ctypes.POINTER(ctypes.c_uint64)), ("place", ctypes.c_uint32), ("size", ctypes.c_uint32)]
+
+
+class InPieces(Functions):
+    """The functions of NAME_parts.c, for messages in pieces; what C leaves undefined ends the check."""
+
+    def __init__(self, folder, name, code, compiler):
+        base = os.path.join(folder, name + "_parts")
+        super().__init__(base + ".c", "%s.%s.so" % (base, compiler), compiler, ["-O1", *SANITIZED], code, name)
+
+    def run(self, entry, arguments, cells, message, lead):
+        """How a run over a message in two pieces ends, of which the second begins behind `lead` bytes of its words."""
+        half = len(message) // 2
+        front, back = words_in(message[:half]), words_in(bytes(lead) + message[half:])
+        pieces = (Piece * 2)(Piece(front, 0, half), Piece(back, lead, len(message) - half))
+        return self.call(entry, (pieces, ctypes.c_uint32(2)), "_parts", arguments, cells, lambda: None)
 
 
 def copy_of(room):
@@ -181,8 +205,12 @@ class Ended:
     def without_loads(self):
         return self.reason, self.position, self.frames, self.cells, self.copies
 
-    def report(self, code, entry, stretch=""):
-        """The report that `td run` writes of such a run; `stretch` is how it begins to tell a load's place."""
+    def leaves(self, cells):
+        """Whether a rejected message left what it would deliver: cells as they were, and no copy."""
+        return self.reason == "accept" or (self.cells == cells and not any(self.copies))
+
+    def report(self, code, entry):
+        """The report that `td run` writes of such a run."""
         verdict = self.reason if self.reason == "accept" else "reject " + self.reason
         lines = ["%s %d" % (verdict, self.position)]
         lines += ["frame %s.%s %d" % frame for frame in self.frames]
@@ -190,7 +218,7 @@ class Ended:
         for (name, field, _), value in zip(own_cells, self.cells):
             lines.append("out %s%s %d" % (code.name(name), "" if field == NO_FIELD else "." + code.name(field), value))
         lines += [("copy %s %s" % (code.name(name), copy.hex())).rstrip() for name, copy in zip(buffers, self.copies)]
-        return lines + ["load %s%d %016x" % (stretch, *load) for load in self.loads]
+        return lines + ["load %d %016x" % load for load in self.loads]
 
     def line(self, code):
         """The line that td_try_code writes of it, in numbers."""

@@ -1,6 +1,7 @@
 /* Validates one message by the library for C, in words at an address of their own that nobody stores to from then on, and prints
    the answer and the words that were told to be loaded: machine_loads IMAGE ENTRY PLACES ARGS HEX. PLACES is the message's first byte,
-   or its stretches, as `4+3,16+8`; ARGS are numbers with commas between, or `-`; HEX are the bytes of the words from the first on. */
+   or its stretches, as `4+3,16+8`, or with a / before them the same as pieces; ARGS are numbers with commas between, or `-`; HEX are the bytes of the
+   words from the first on. */
 #include "td.h"
 #include <stdio.h>
 #include <stdlib.h>
@@ -60,21 +61,28 @@ int main(int argc, char **argv) {
   }
   if (mprotect(words, 8 * WORDS, PROT_READ)) return 9;
   int32_t answer;
+  bool in_pieces = argv[3][0] == '/';
+  td_stretch parts[PARTS];
+  td_piece pieces[PARTS];
   if (strchr(argv[3], '+')) {
-    td_stretch parts[PARTS];
     size_t count = 0;
-    for (char *text = strtok(argv[3], ","); text && count < PARTS; text = strtok(0, ",")) {
+    for (char *text = strtok(argv[3] + in_pieces, ","); text && count < PARTS; text = strtok(0, ",")) {
       parts[count].place = (uint32_t)strtoul(text, &text, 10);
       parts[count++].size = (uint32_t)strtoul(text + 1, 0, 10);
     }
-    answer = td_validate_parts_loads(&s, words, WORDS, parts, count, &call, rows, ROWS);
+    for (size_t k = 0; k < count; k++) pieces[k] = td_piece_at((const uint8_t *)words + parts[k].place, parts[k].size);
+    if (in_pieces) answer = td_validate_pieces_loads(&s, pieces, count, &call, rows, ROWS);
+    else answer = td_validate_parts_loads(&s, words, WORDS, parts, count, &call, rows, ROWS);
   } else {
     call.place = (uint32_t)strtoul(argv[3], 0, 10);
     call.length = (uint32_t)length - call.place;
     answer = td_validate_loads(&s, words, WORDS, &call, rows, ROWS);
   }
   printf("answer %d loads %llu:", answer, (unsigned long long)call.load_count);
-  for (uint64_t i = 0; i < call.load_count && i < ROWS; i++) printf(" %u", rows[i].word);
+  for (uint64_t i = 0; i < call.load_count && i < ROWS; i++) {
+    size_t from = in_pieces ? (size_t)(pieces[rows[i].stretch].words - words) : 0;
+    printf(" %zu", from + rows[i].word);
+  }
   printf("\n");
   td_close(&s);
   return 0;

@@ -56,7 +56,7 @@ static struct timespec began;
 /* ---- what is told ---- */
 
 static void write_stats(void) {
-  static const char *const names[KINDS] = {"available", "event", "descriptor", "header", "segment"};
+  static const char *const names[KINDS] = {"available", "event", "chain", "descriptor", "header", "segment"};
   FILE *f = stats_path ? fopen(stats_path, "w") : stderr;
   if (!f) return;
   tally all[KINDS] = {{0}};
@@ -72,6 +72,7 @@ static void write_stats(void) {
     }
     const uint64_t *from = (const uint64_t *)&q->t;
     for (size_t i = 0; i < sizeof t / 8; i++) ((uint64_t *)&t)[i] += from[i];
+    t.beyond += q->checker.beyond;
     gathered += q->checker.gathered;
     compared += q->checker.compared;
     strikes += q->checker.strikes;

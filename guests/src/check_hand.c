@@ -1,6 +1,6 @@
 /* By hand, for comparison. As it stands: each field is read once and tested. -DTESTS=0: nothing is tested. -DFETCHES=2: tested,
    and then read again, as if nobody stored. */
-#include "check.h"
+#include "walk.h"
 #include <string.h>
 #ifndef TESTS
 #define TESTS 1
@@ -62,7 +62,7 @@ static bool is_sound(const check *c, raw_descriptor r, uint32_t entries, bool ma
       && (!(r.flags & 4) || (may_be_indirect && !(r.flags & 1) && r.length && r.length % 16 == 0));
 }
 
-verdict check_descriptor(check *c, uint64_t where, uint32_t entries, bool may_be_indirect, descriptor *d) {
+static verdict check_descriptor(check *c, uint64_t where, uint32_t entries, bool may_be_indirect, descriptor *d) {
   const uint8_t *at = memory_at(c->m, where, 16);
   if (!at) return REFUSED;
   TAKE(raw_descriptor, r, at);

@@ -1,8 +1,10 @@
-/* By the proved library: one session, and each message where it lies, at any byte, in one piece or in stretches. What a message
-   is asked and what it delivers are by the names that td-header wrote (virtio_image.h). */
+/* By the proved libraries: one session, and each message where it lies, at any byte, in one piece or in stretches; and a chain by
+   one td_walk. What a message is asked and what it delivers are by the names that td-header wrote (virtio_image.h). */
 #include "check.h"
 #include "seen.h"
+#include "seen_chain.h"
 #include "td.h"
+#include "td_chain.h"
 #include "virtio_image.h"
 #include <stdlib.h>
 #include <string.h>
@@ -13,7 +15,13 @@ const char check_body[] = "library";
 typedef struct {
   td_session session;
   td_call call;
-  seen_message seen; /* in WATCH builds */
+  uint64_t lowest; /* the guest's lowest address: there the words of a walk begin */
+  td_region regions[MOST_REGIONS];
+  td_chain_piece pieces[MOST_SPANS];
+#ifdef WATCH
+  seen_message seen;
+  td_load loads[MOST_CHAIN_LOADS];
+#endif
 } body;
 
 bool check_open(check *c, const memory *m) {
@@ -22,7 +30,13 @@ bool check_open(check *c, const memory *m) {
   body *b = c->body;
   td_fault fault;
   c->m = m;
-  return b && virtio_image_open(&b->session, &fault) == TD_DONE;
+  if (!b) return false;
+  b->lowest = m->top;
+  for (unsigned k = 0; k < m->count; k++)
+    if (m->regions[k].from < b->lowest) b->lowest = m->regions[k].from;
+  for (unsigned k = 0; k < m->count; k++)
+    b->regions[k] = (td_region){m->regions[k].from, m->regions[k].until, m->regions[k].from - b->lowest};
+  return virtio_image_open(&b->session, &fault) == TD_DONE;
 }
 
 void check_close(check *c) {
@@ -78,7 +92,7 @@ static verdict run(check *c, kind k, const span *parts, unsigned n) {
   return counted(c, k, code == TD_ACCEPTED);
 }
 
-/* In WATCH builds a second reading of the message from its loads. */
+/* In WATCH builds a second reading, from the loads alone. */
 #ifdef WATCH
 #define AGAIN(call) (call, c->compared++)
 #else
@@ -105,19 +119,34 @@ verdict check_event(check *c, uint64_t at, uint16_t *event) {
   return v;
 }
 
-verdict check_descriptor(check *c, uint64_t at, uint32_t entries, bool may_be_indirect, descriptor *d) {
+/* The walk of td_chain.h, with the loads in WATCH builds. */
+static int32_t walk(body *b, const uint64_t *words, size_t count, unsigned regions, const td_queue *q, uint16_t head, td_chain_end *end) {
+#ifdef WATCH
+  return td_walk_loads(words, count, q, b->regions, regions, head, b->pieces, MOST_SPANS, b->loads, MOST_CHAIN_LOADS, end);
+#else
+  return td_walk(words, count, q, b->regions, regions, head, b->pieces, MOST_SPANS, end);
+#endif
+}
+
+verdict check_chain(check *c, uint64_t table, uint16_t size, bool may_be_indirect, uint16_t head, chain *ch) {
   body *b = c->body;
-  struct virtio_image_DESCRIPTOR_r r;
-  region g[MOST_REGIONS];
-  for (unsigned k = 0; k < MOST_REGIONS; k++) g[k] = k < c->m->count ? c->m->regions[k] : (region){1, 0};
-  virtio_image_DESCRIPTOR_ask(&b->call, entries, may_be_indirect, g[0].from, g[0].until, g[1].from, g[1].until, g[2].from,
-                              g[2].until, g[3].from, g[3].until);
-  verdict v = run(c, OF_DESCRIPTOR, &(span){at, 16}, 1);
-  virtio_image_DESCRIPTOR_take(&b->session, &b->call, &r);
-  *d = (descriptor){.address = r.Address, .length = r.Length, .next = r.Next, .has_next = r.HasNext, .writes = r.DeviceWrites,
-                    .is_indirect = r.IsIndirect};
-  AGAIN(seen_descriptor(&b->seen, c->m, entries, may_be_indirect, v, d));
-  return v;
+  td_queue q = {table - b->lowest, size, may_be_indirect};
+  td_chain_end end;
+  size_t count = (c->m->top - b->lowest) / 8;
+  int32_t code = walk(b, (const uint64_t *)(c->m->base + b->lowest), count, c->m->count, &q, head, &end);
+  if (code != TD_DONE) {
+    fprintf(stderr, "library: a walk answers %d\n", code);
+    abort();
+  }
+  c->tallies[OF_CHAIN].loads += end.load_count;
+  AGAIN(seen_chain(b->loads, MOST_CHAIN_LOADS, &q, b->regions, c->m->count, head, b->pieces, MOST_SPANS, &end));
+  bool is_sound = end.error == TD_CHAIN_WHOLE && end.count <= MOST_SPANS;
+  chain_begin(ch);
+  for (uint64_t k = 0; is_sound && k < end.count; k++) {
+    const td_chain_piece *p = &b->pieces[k];
+    if (!add_span(ch, (span){b->lowest + p->place, p->size}, p->is_writable)) { c->beyond++; is_sound = false; }
+  }
+  return counted(c, OF_CHAIN, is_sound);
 }
 
 /* Whether the field at which the last message failed is the type of a block request. */

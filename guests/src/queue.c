@@ -13,53 +13,10 @@
 
 enum { T_IN = 0, T_OUT = 1, T_FLUSH = 4, T_GET_ID = 8, T_DISCARD = 11, T_WRITE_ZEROES = 13 };
 enum { HEADER_BYTES = 16, ID_BYTES = 20, BATCH = 32 };
-#define MOST_BYTES (UINT64_C(1) << 32)
 
 static void signal_to(int fd) {
   uint64_t one = 1;
   if (fd >= 0 && write(fd, &one, sizeof one) < 0 && errno != EAGAIN) perror("eventfd");
-}
-
-/* ---- the chain ---- */
-
-static bool add_span(chain *ch, const descriptor *d) {
-  if (ch->count == MOST_SPANS) return false;
-  if (!d->writes && ch->count != ch->readable) return false; /* what is read comes before what is written */
-  ch->spans[ch->count++] = (span){d->address, d->length};
-  if (d->writes) {
-    ch->writable_bytes += d->length;
-  } else {
-    ch->readable++;
-    ch->readable_bytes += d->length;
-  }
-  return true;
-}
-
-/* From descriptor to descriptor, at most as many as the queue has (2.7.5.3.1), through at most one indirect table, and at most
-   2^32 bytes (2.7.5.2). */
-static bool walk(queue *q, uint16_t head, chain *ch) {
-  uint64_t table = q->table;
-  uint32_t entries = q->size, left = q->size + 1, n = head;
-  bool may_be_indirect = q->dev->features & F_RING_INDIRECT;
-  ch->readable = ch->count = 0;
-  ch->readable_bytes = ch->writable_bytes = 0;
-  for (;;) {
-    descriptor d;
-    if (!left--) return false;
-    if (n >= entries) { q->t.beyond++; return false; } /* with tests that hold, never */
-    if (check_descriptor(&q->checker, table + 16 * n, entries, may_be_indirect, &d) == REFUSED) return false;
-    if (d.is_indirect) {
-      if (!may_be_indirect) { q->t.beyond++; return false; }
-      table = d.address;
-      entries = d.length / 16;
-      may_be_indirect = false;
-      n = 0;
-      continue;
-    }
-    if (!add_span(ch, &d)) return false;
-    if (!d.has_next) return ch->readable_bytes + ch->writable_bytes <= MOST_BYTES;
-    n = d.next;
-  }
 }
 
 /* ---- the request ---- */
@@ -226,7 +183,8 @@ static void serve(queue *q) {
     }
     asked = false;
     if (a.head >= q->size) { q->t.beyond++; a.head = 0; }
-    bool is_sound = walk(q, a.head, &q->chain);
+    bool may_be_indirect = q->dev->features & F_RING_INDIRECT;
+    bool is_sound = check_chain(&q->checker, q->table, (uint16_t)q->size, may_be_indirect, a.head, &q->chain) == ACCEPTED;
     if (!is_sound) {
       q->t.bad_chains++;
       if (again(q, &tries)) continue;

@@ -1,4 +1,4 @@
-/* What was loaded of a message (image_to_c's C: by TD_LOAD; the library: by td_validate_parts_loads), and a second reading of the
+/* What was loaded of a message (written C: by TD_LOAD; the library: by td_validate_parts_loads), and a second reading of the
    message from these loads alone, by hand: verdict and values have to be those that the validator gave. A WATCH build stops if
    they aren't, if a word is loaded twice, and if a word is loaded that has no byte of the message. */
 #ifndef SEEN_H
@@ -39,6 +39,27 @@ static inline void seen_add(seen_message *s, unsigned piece, const void *word, u
   s->loads[s->count++] = (seen_load){piece, at, value};
 }
 
+/* The piece of a word that was loaded next, as far as its address says: loads rise, so it is the first one from the last load on that has
+   the word, and of which it wasn't loaded. */
+static inline unsigned seen_piece_of(const seen_message *s, const void *word) {
+  const uint8_t *at = word;
+  unsigned p = s->count ? s->loads[s->count - 1].piece : 0;
+  if (s->count && s->loads[s->count - 1].at == at) p++;
+  while (p < s->piece_count && (at + 8 <= s->pieces[p].at || at >= s->pieces[p].at + s->pieces[p].size)) p++;
+  return p;
+}
+
+/* The load in which a byte of a piece was loaded; of a word that two pieces share it may be counted as the other one's. */
+static inline unsigned seen_at(const seen_message *s, unsigned piece, const uint8_t *at) {
+  unsigned shared = s->count;
+  for (unsigned k = 0; k < s->count; k++) {
+    if (s->loads[k].at > at || at >= s->loads[k].at + 8) continue;
+    if (s->loads[k].piece == piece) return k;
+    shared = k;
+  }
+  return shared;
+}
+
 /* The number of `width` bytes at a place of the message, if all of them were loaded. */
 static inline bool seen_number(const seen_message *s, uint32_t place, unsigned width, uint64_t *number) {
   *number = 0;
@@ -48,8 +69,7 @@ static inline bool seen_number(const seen_message *s, uint32_t place, unsigned w
     while (p < s->piece_count && rest >= s->pieces[p].size) rest -= s->pieces[p++].size;
     if (p == s->piece_count) return false;
     const uint8_t *at = s->pieces[p].at + rest;
-    unsigned k = 0;
-    while (k < s->count && !(s->loads[k].piece == p && s->loads[k].at <= at && at < s->loads[k].at + 8)) k++;
+    unsigned k = seen_at(s, p, at);
     if (k == s->count) return false;
     *number |= (s->loads[k].value >> 8 * (at - s->loads[k].at) & 0xff) << 8 * i;
   }

@@ -20,6 +20,7 @@ pub use error::{Accepted, Error, No, Reason, Verdict};
 pub use versions::{Codes, Seat};
 
 use alloc::{string::String, vec, vec::Vec};
+use core::marker::PhantomData;
 use core::sync::atomic::AtomicU64;
 
 /// An entry point of a code.
@@ -87,6 +88,18 @@ pub struct Stretch {
     pub place: u32,
     /// How many bytes it has.
     pub size: u32,
+}
+
+/// A piece of a message: bytes in words of its own, which may be any memory.
+#[repr(transparent)]
+pub struct Piece<'a>(raw::Piece, PhantomData<&'a [AtomicU64]>);
+
+impl<'a> Piece<'a> {
+    /// So many bytes, of which the first is byte `place` of these words.
+    pub fn new(words: &'a [AtomicU64], place: u32, size: u32) -> Piece<'a> {
+        let (at, count) = (words.as_ptr(), words.len());
+        Piece(raw::Piece { words: raw::Words { at, count }, count, place, size }, PhantomData)
+    }
 }
 
 /// A load that was made.
@@ -286,6 +299,23 @@ impl Session {
         let (rows, room) = (loads.as_mut_ptr(), loads.len());
         let code = unsafe { raw::td_c_validate_parts(&mut self.0, self.0.full, call, at, count, &mut shared, words.len(), rows, room) };
         verdict(code, call)
+    }
+
+    /// Takes room for messages of so many pieces, at most 1,024, so that these take no memory.
+    pub fn room(&mut self, pieces: usize) -> Result<(), Error> {
+        done(unsafe { raw::td_c_room(&mut self.0, self.0.full, pieces) })
+    }
+
+    /// The same for a message that is these pieces, one after the other, each in words of its own.
+    pub fn validate_pieces(&mut self, pieces: &mut [Piece], call: &mut Call) -> Result<Verdict, Error> {
+        self.validate_pieces_loads(pieces, call, &mut [])
+    }
+
+    /// The same, and writes the loads that were made: a load's stretch is the piece, and its word is of that piece's words.
+    pub fn validate_pieces_loads(&mut self, pieces: &mut [Piece], call: &mut Call, loads: &mut [Load]) -> Result<Verdict, Error> {
+        let (at, count) = (pieces.as_mut_ptr().cast(), pieces.len());
+        let (rows, room) = (loads.as_mut_ptr(), loads.len());
+        verdict(unsafe { raw::td_c_validate_pieces(&mut self.0, self.0.full, call, at, count, rows, room) }, call)
     }
 
     /// What the copy buffer at this place holds after the last validation. They are bytes of the loads that were validated.

@@ -20,6 +20,14 @@ pub struct Words {
 }
 
 #[repr(C)]
+pub struct Piece {
+    pub words: Words,
+    pub count: usize,
+    pub place: u32,
+    pub size: u32,
+}
+
+#[repr(C)]
 #[derive(Default)]
 pub struct Fault {
     pub place: u64,
@@ -55,6 +63,16 @@ extern "C" {
         part_count: usize,
         words: *mut Words,
         count: usize,
+        loads: *mut crate::Load,
+        room: usize,
+    ) -> i32;
+    pub fn td_c_room(s: *mut Handle, full: bool, count: usize) -> i32;
+    pub fn td_c_validate_pieces(
+        s: *mut Handle,
+        full: bool,
+        call: *mut crate::Call,
+        pieces: *mut Piece,
+        piece_count: usize,
         loads: *mut crate::Load,
         room: usize,
     ) -> i32;

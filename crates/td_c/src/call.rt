@@ -1,20 +1,17 @@
 //! A validation that C asks for, and its answer.
 
-ghost use Rattle.std.specs.Prelude.{◌≡◌, ◌≤◌, ◌↔◌, [], Some, IsTrue, IfSome, IsSome, IsNone, take, drop, length as size_of};
+ghost use Rattle.std.specs.Prelude.{◌≡◌, ◌≤◌, ◌↔◌, [], Some, IsTrue, IsNone, take, drop, length as size_of};
 ghost use Rattle.std.specs.Arc.{arc_value};
 ghost use Rattle.td_stream.specs.Layouts.{AreWithin, count_in};
 ghost use Rattle.td_stream.specs.Loads.{buffered};
-ghost use Rattle.td_ir.specs.Entries.{Fits, buffers_of};
-ghost use Rattle.td_foreign.specs.Noted.{IsNoted};
-ghost use Rattle.td_vm.specs.Frames.{IsRestEmpty};
-ghost use Rattle.td_session.specs.Validated.{IsValidated};
-ghost use Rattle.td_c.specs.Asked.{HasAnswered, SameQuestion, entry_asked, args_of, cells_of, copied_by};
+ghost use Rattle.td_foreign.specs.Pieces.{AreFresh, AreWhole, HasLoads, layout_of};
+ghost use Rattle.td_c.specs.Asked.{HasAnswered, IsRunOfCall, SameQuestion, entry_asked, args_of, cells_of};
 ghost use Rattle.td_c.specs.Numbers.{position_told, reason_told};
 
 use crate::answers::{Answer, Refusal, reason_of};
 use td_core::module::Entry;
 use td_core::outcome::Verdict;
-use td_foreign::{ForeignWords, NotedWords, TdLoad, TdWords};
+use td_foreign::{ForeignWords, NotedWords, PieceWords, TdLoad, TdPiece, TdWords};
 use td_session::session::Session;
 use td_stream::layout::Layout;
 use td_stream::made::Made;
@@ -45,17 +42,14 @@ pub struct TdCall {
     pub cells: [u64; 64],
 }
 
-// What a validation found, the loads that it made, and how many, and the words again.
+// What a validation found, with its steps, and how many loads were made.
 #[derive(Drop)]
 struct Run {
-    // With the steps.
-    verdict: Option<(Verdict, u64)>,
-    made: Made,
+    found: Option<(Verdict, u64)>,
     count: u64,
-    words: TdWords,
 }
 
-// Validates a message that lies so in the words, and notes the loads: the verdict with its steps, and how many loads they are.
+// Validates a message that lies so in the words, and notes the loads.
 fn run_noted<W: Words>(
     session: &mut Session,
     entry: Entry,
@@ -64,117 +58,63 @@ fn run_noted<W: Words>(
     layout: &Layout,
     words: &mut W,
     rows: &mut [TdLoad],
-) -> (Option<(Verdict, u64)>, u64)
+) -> Run
     requires message { W.size words.old ≡ count_in layout.now }
     requires fresh { W.loads words.old ≡ [] }
     ensures code { arc_value session.new.code ≡ arc_value session.old.code }
-    ensures fits { IsSome result.0 ↔ Fits (arc_value session.old.code) entry args.now cells.old }
-    ensures validated { IfSome result.0 (λ v. IsValidated (arc_value session.old.code) entry args.now cells.old layout.now (W.loads words.new)
-        (record { verdict = v.0; trace = session.new.frame.trace; cells = cells.new; copies = copied_by (arc_value session.old.code) entry session.new.frame }) v.1) }
-    ensures rest { IfSome result.0 (λ v. IsRestEmpty (arc_value session.old.code) (buffers_of (arc_value session.old.code) entry) session.new.frame) }
+    ensures ran { IsRunOfCall (arc_value session.old.code) entry args.now cells.old cells.new layout.now (W.loads words.new) session.old.frame session.new.frame rows.old rows.new result.found result.count }
     ensures reaches { W.reaches words.old words.new }
-    ensures unloaded { IsNone result.0 → W.loads words.new ≡ [] }
-    ensures unchanged { IsNone result.0 → cells.new ≡ cells.old }
-    ensures kept { IsNone result.0 → session.new.frame ≡ session.old.frame }
-    ensures noted { IsNoted layout.now (W.loads words.new) rows.old result.1 rows.new }
-    ensures cells { size_of cells.new ≡ size_of cells.old }
+    ensures size { size_of cells.new ≡ size_of cells.old }
 {
     let mut noted = NotedWords::over(words, layout, rows);
-    let verdict = session.validate(entry, args, cells, layout, &mut noted);
-    (verdict, noted.load_count())
-}
-
-// Validates a message that lies so within the words, and gives the words back.
-fn run_session(
-    session: &mut Session,
-    entry: Entry,
-    args: &[u64],
-    cells: &mut [u64],
-    layout: &Layout,
-    words: TdWords,
-    rows: &mut [TdLoad],
-) -> Run
-    requires inside { AreWithin words.count layout.now }
-    requires fresh { words.made ≡ [] }
-    ensures code { arc_value session.new.code ≡ arc_value session.old.code }
-    ensures fits { IsSome result.verdict ↔ Fits (arc_value session.old.code) entry args.now cells.old }
-    ensures validated { IfSome result.verdict (λ v. IsValidated (arc_value session.old.code) entry args.now cells.old layout.now result.made
-        (record { verdict = v.0; trace = session.new.frame.trace; cells = cells.new; copies = copied_by (arc_value session.old.code) entry session.new.frame }) v.1) }
-    ensures rest { IfSome result.verdict (λ v. IsRestEmpty (arc_value session.old.code) (buffers_of (arc_value session.old.code) entry) session.new.frame) }
-    ensures unloaded { IsNone result.verdict → result.made ≡ [] }
-    ensures unchanged { IsNone result.verdict → cells.new ≡ cells.old }
-    ensures kept { IsNone result.verdict → session.new.frame ≡ session.old.frame }
-    ensures loaded { result.words.made ≡ buffered (Some layout.now) result.made }
-    ensures words { result.words.count ≡ words.count }
-    ensures noted { IsNoted layout.now result.made rows.old result.count rows.new }
-    ensures cells { size_of cells.new ≡ size_of cells.old }
-{
-    let mut memory = ForeignWords::over(words, layout);
-    let (verdict, count) = run_noted(session, entry, args, cells, layout, &mut memory, rows);
-    let (words, made) = memory.end();
+    let found = session.validate(entry, args, cells, layout, &mut noted);
     Run {
-        verdict,
-        made,
-        count,
-        words,
+        found,
+        count: noted.load_count(),
     }
 }
 
 // The same, of the first so many cells.
-fn run_front(
+fn run_front<W: Words>(
     session: &mut Session,
     entry: Entry,
     args: &[u64],
     cells: &mut [u64],
     cell_count: usize,
     layout: &Layout,
-    words: TdWords,
+    words: &mut W,
     rows: &mut [TdLoad],
 ) -> Run
-    requires inside { AreWithin words.count layout.now }
-    requires fresh { words.made ≡ [] }
+    requires message { W.size words.old ≡ count_in layout.now }
+    requires fresh { W.loads words.old ≡ [] }
     requires cells { cell_count ≤ size_of cells.old }
     ensures code { arc_value session.new.code ≡ arc_value session.old.code }
-    ensures fits { IsSome result.verdict ↔ Fits (arc_value session.old.code) entry args.now (take cell_count cells.old) }
-    ensures validated { IfSome result.verdict (λ v. IsValidated (arc_value session.old.code) entry args.now (take cell_count cells.old) layout.now result.made
-        (record { verdict = v.0; trace = session.new.frame.trace; cells = take cell_count cells.new; copies = copied_by (arc_value session.old.code) entry session.new.frame }) v.1) }
-    ensures rest { IfSome result.verdict (λ v. IsRestEmpty (arc_value session.old.code) (buffers_of (arc_value session.old.code) entry) session.new.frame) }
-    ensures unloaded { IsNone result.verdict → result.made ≡ [] }
-    ensures unchanged { IsNone result.verdict → cells.new ≡ cells.old }
-    ensures kept { IsNone result.verdict → session.new.frame ≡ session.old.frame }
-    ensures loaded { result.words.made ≡ buffered (Some layout.now) result.made }
-    ensures words { result.words.count ≡ words.count }
-    ensures noted { IsNoted layout.now result.made rows.old result.count rows.new }
+    ensures ran { IsRunOfCall (arc_value session.old.code) entry args.now (take cell_count cells.old) (take cell_count cells.new) layout.now (W.loads words.new) session.old.frame session.new.frame rows.old rows.new result.found result.count }
+    ensures reaches { W.reaches words.old words.new }
+    ensures unchanged { IsNone result.found → cells.new ≡ cells.old }
     ensures behind { drop cell_count cells.new ≡ drop cell_count cells.old }
     ensures size { size_of cells.new ≡ size_of cells.old }
 {
     let (front, _) = cells.split_at_mut(cell_count);
-    run_session(session, entry, args, front, layout, words, rows)
+    run_noted(session, entry, args, front, layout, words, rows)
 }
 
 // The same, of the first so many arguments and cells of a call, which has room for them.
-fn run_call(
+fn run_call<W: Words>(
     session: &mut Session,
     call: &mut TdCall,
     layout: &Layout,
-    words: TdWords,
+    words: &mut W,
     rows: &mut [TdLoad],
 ) -> Run
-    requires inside { AreWithin words.count layout.now }
-    requires fresh { words.made ≡ [] }
+    requires message { W.size words.old ≡ count_in layout.now }
+    requires fresh { W.loads words.old ≡ [] }
     requires args { call.old.arg_count ≤ 16 }
     requires cells { call.old.cell_count ≤ 64 }
     ensures code { arc_value session.new.code ≡ arc_value session.old.code }
-    ensures fits { IsSome result.verdict ↔ Fits (arc_value session.old.code) (entry_asked call.old) (args_of call.old) (cells_of call.old) }
-    ensures validated { IfSome result.verdict (λ v. IsValidated (arc_value session.old.code) (entry_asked call.old) (args_of call.old) (cells_of call.old) layout.now result.made
-        (record { verdict = v.0; trace = session.new.frame.trace; cells = cells_of call.new; copies = copied_by (arc_value session.old.code) (entry_asked call.old) session.new.frame }) v.1) }
-    ensures rest { IfSome result.verdict (λ v. IsRestEmpty (arc_value session.old.code) (buffers_of (arc_value session.old.code) (entry_asked call.old)) session.new.frame) }
-    ensures unloaded { IsNone result.verdict → result.made ≡ [] }
-    ensures unchanged { IsNone result.verdict → call.new ≡ call.old }
-    ensures kept { IsNone result.verdict → session.new.frame ≡ session.old.frame }
-    ensures loaded { result.words.made ≡ buffered (Some layout.now) result.made }
-    ensures words { result.words.count ≡ words.count }
-    ensures noted { IsNoted layout.now result.made rows.old result.count rows.new }
+    ensures ran { IsRunOfCall (arc_value session.old.code) (entry_asked call.old) (args_of call.old) (cells_of call.old) (cells_of call.new) layout.now (W.loads words.new) session.old.frame session.new.frame rows.old rows.new result.found result.count }
+    ensures reaches { W.reaches words.old words.new }
+    ensures unchanged { IsNone result.found → call.new ≡ call.old }
     ensures same { SameQuestion call.old call.new }
 {
     let entry = Entry { number: call.entry };
@@ -195,33 +135,30 @@ fn verdict_numbers(verdict: Verdict) -> (u32, u32)
     }
 }
 
-/// Validates a message that lies so within the words, and gives the words back.
-pub(crate) fn validate(
+// Validates a message that lies so in the words, of which none was loaded.
+fn validate<W: Words>(
     session: &mut Session,
     call: &mut TdCall,
     layout: &Layout,
-    words: TdWords,
+    words: &mut W,
     rows: &mut [TdLoad],
-) -> (Answer, Made, TdWords)
-    requires inside { AreWithin words.count layout.now }
-    requires fresh { words.made ≡ [] }
+) -> Answer
+    requires message { W.size words.old ≡ count_in layout.now }
+    requires fresh { W.loads words.old ≡ [] }
     ensures code { arc_value session.new.code ≡ arc_value session.old.code }
-    ensures answered { HasAnswered (arc_value session.old.code) session.old.frame session.new.frame result.0 result.1 result.2.made rows.old rows.new call.old call.new layout.now words.count }
-    ensures words { result.2.count ≡ words.count }
+    ensures answered { HasAnswered (arc_value session.old.code) session.old.frame session.new.frame result (W.loads words.new) rows.old rows.new call.old call.new layout.now (Unit {0}) }
+    ensures reaches { W.reaches words.old words.new }
 {
     if (call.entry as usize) >= session.entry_count() {
-        return (Err(Refusal::NoEntry), Made::new(), words);
+        words_stay(words);
+        return Err(Refusal::NoEntry);
     }
     if call.arg_count > 16 || call.cell_count > 64 {
-        return (Err(Refusal::Unfit), Made::new(), words);
+        words_stay(words);
+        return Err(Refusal::Unfit);
     }
-    let Run {
-        verdict,
-        made,
-        count,
-        words,
-    } = run_call(session, call, layout, words, rows);
-    match verdict {
+    let Run { found, count } = run_call(session, call, layout, words, rows);
+    match found {
         Some((verdict, steps)) => {
             let (position, reason) = verdict_numbers(verdict);
             call.position = position;
@@ -229,13 +166,13 @@ pub(crate) fn validate(
             call.frame_count = session.trace().len() as u64;
             call.load_count = count;
             call.step_count = steps;
-            (Ok(verdict), made, words)
+            Ok(verdict)
         }
-        None => (Err(Refusal::Unfit), made, words),
+        None => Err(Refusal::Unfit),
     }
 }
 
-/// Validates a message that lies so, where it is within the words.
+/// Validates a message that lies so, where it is within the words, and gives the words back.
 pub(crate) fn validate_within(
     session: &mut Session,
     call: &mut TdCall,
@@ -249,11 +186,47 @@ pub(crate) fn validate_within(
     requires count { words.count ≡ count }
     requires fresh { words.made ≡ [] }
     ensures code { arc_value session.new.code ≡ arc_value session.old.code }
-    ensures answered { HasAnswered (arc_value session.old.code) session.old.frame session.new.frame result.0 result.1 result.2.made rows.old rows.new call.old call.new layout.now count }
+    ensures answered { HasAnswered (arc_value session.old.code) session.old.frame session.new.frame result.0 result.1 rows.old rows.new call.old call.new layout.now (AreWithin count layout.now) }
+    ensures loaded { result.2.made ≡ buffered (Some layout.now) result.1 }
     ensures words { result.2.count ≡ words.count }
 {
     if !inside {
         return (Err(Refusal::Past), Made::new(), words);
     }
-    validate(session, call, layout, words, rows)
+    let mut memory = ForeignWords::over(words, layout);
+    let answer = validate(session, call, layout, &mut memory, rows);
+    let (words, made) = memory.end();
+    (answer, made, words)
+}
+
+/// Validates a message that is these pieces, where each of them is within its words.
+pub(crate) fn validate_pieces(
+    session: &mut Session,
+    call: &mut TdCall,
+    layout: &Layout,
+    whole: bool,
+    pieces: &mut [TdPiece],
+    rows: &mut [TdLoad],
+) -> (Answer, Made)
+    requires whole { IsTrue whole ↔ AreWhole pieces.old }
+    requires laid { layout.now ≡ layout_of pieces.old }
+    requires fresh { AreFresh pieces.old }
+    ensures code { arc_value session.new.code ≡ arc_value session.old.code }
+    ensures answered { HasAnswered (arc_value session.old.code) session.old.frame session.new.frame result.0 result.1 rows.old rows.new call.old call.new layout.now (AreWhole pieces.old) }
+    ensures loaded { HasLoads pieces.old pieces.new result.1 }
+{
+    if !whole {
+        return (Err(Refusal::Past), Made::new());
+    }
+    let mut made = Made::new();
+    let mut memory = PieceWords::over(pieces, layout, &mut made);
+    let answer = validate(session, call, layout, &mut memory, rows);
+    (answer, made)
+}
+
+// Words reach themselves.
+fn words_stay<W: Words>(words: &W)
+    ensures { W.reaches words.now words.now }
+{
+    words.count();
 }

@@ -182,7 +182,7 @@ pub extern "C" fn td_c_validate(
     requires handle { handle.old.full ≡ full }
     requires words { words.old.count ≡ count }
     requires fresh { words.old.made ≡ [] }
-    ensures closed { full ≡ false → (result ≡ pos 3) × (handle.new ≡ handle.old) × asked.IsUntouched call.old call.new words.new.made rows.old rows.new }
+    ensures closed { full ≡ false → (result ≡ pos 3) × (handle.new ≡ handle.old) × asked.IsUntouched call.old call.new (words.new.made ≡ []) rows.old rows.new }
     ensures open { full ≡ true → handle.new.full ≡ true }
     // The answer is that of the code's run on every byte list that carries the loads, and the loads are all that were made; the rows begin
     // with these loads.
@@ -243,7 +243,7 @@ pub extern "C" fn td_c_validate_parts(
     requires handle { handle.old.full ≡ full }
     requires words { words.old.count ≡ count }
     requires fresh { words.old.made ≡ [] }
-    ensures closed { full ≡ false → (result ≡ pos 3) × (handle.new ≡ handle.old) × asked.IsUntouched call.old call.new words.new.made rows.old rows.new }
+    ensures closed { full ≡ false → (result ≡ pos 3) × (handle.new ≡ handle.old) × asked.IsUntouched call.old call.new (words.new.made ≡ []) rows.old rows.new }
     ensures open { full ≡ true → handle.new.full ≡ true }
     // The slot holds no session, or the stretches have no layout, and all is as before; or the answer is that of the code's run.
     ensures answered { full ≡ true → IsAnsweredInParts handle.old.value handle.new.value call.old call.new parts.now count words.new.made rows.old rows.new result }

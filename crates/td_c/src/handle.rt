@@ -6,6 +6,7 @@ ghost use Rattle.td_c.specs.Kept.{IsClosed, IsForSession, IsForVersions, IsForSe
 ghost use Rattle.td_c.specs.declared.handle.Slot.{Slot as kept};
 
 use crate::answers::{Answer, Refusal};
+use crate::room::PieceRoom;
 use std::marker::Model;
 use std::{mem, ptr};
 use td_session::session::Session;
@@ -25,6 +26,7 @@ pub struct Slot {
     pub waiting: Option<Vec<Verified>>,
     pub publisher: Option<Publisher>,
     pub reader: Option<Reader>,
+    pub room: PieceRoom,
 }
 
 impl Slot {
@@ -39,6 +41,7 @@ impl Slot {
             waiting: None,
             publisher: None,
             reader: None,
+            room: PieceRoom::none(),
         }
     }
 

@@ -10,5 +10,7 @@ mod frames;
 mod handle;
 mod images;
 mod parts;
+mod pieces;
+mod room;
 mod tables;
 mod versions;

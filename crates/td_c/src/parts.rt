@@ -2,7 +2,7 @@
 
 ghost use Rattle.std.specs.Prelude.{◌≡◌, ◌<◌, ◌≤◌, ◌^◌, ◌*◌, ◌+◌, ◌↔◌, [], ◌∷◌, IsTrue, IfOk, IfErr, length, pos};
 ghost use Rattle.td_stream.specs.Layouts.{AreWithin, length_in};
-ghost use Rattle.td_c.specs.Parts.{stretches_told, AreMessage, IsTooMuch};
+ghost use Rattle.td_c.specs.Parts.{stretches_told, IsMessage, IsTooMuch};
 
 use crate::answers::{NO_MEMORY, TOO_MUCH};
 use std::alloc::{AllocError, Global};
@@ -46,13 +46,13 @@ fn length_of(parts: &[TdStretch]) -> u64
 
 // Whether they are a message: at most 64, of fewer than 2^32 bytes in all. Takes no memory.
 fn are_message(parts: &[TdStretch]) -> bool
-    ensures { IsTrue result ↔ AreMessage parts.now }
+    ensures { IsTrue result ↔ IsMessage 64 (stretches_told parts.now) }
 {
     parts.len() <= MOST_STRETCHES && length_of(parts) < 1 << 32
 }
 
-// Whether a stretch ends within so many words.
-fn ends_within(place: u32, size: u32, count: usize) -> bool
+/// Whether a stretch ends within so many words.
+pub(crate) fn ends_within(place: u32, size: u32, count: usize) -> bool
     ensures { IsTrue result ↔ (place + size ≤ 8 * count) }
 {
     let end = place as u64 + size as u64;
@@ -85,10 +85,10 @@ pub(crate) fn layout_of(
     parts: &[TdStretch],
     count: usize,
 ) -> Result<(Layout, bool), i32>
-    ensures message { IfOk result (λ r. AreMessage parts.now) }
+    ensures message { IfOk result (λ r. IsMessage 64 (stretches_told parts.now)) }
     ensures layout { IfOk result (λ r. r.0 ≡ stretches_told parts.now) }
     ensures inside { IfOk result (λ r. IsTrue r.1 ↔ AreWithin count (stretches_told parts.now)) }
-    ensures refused { IfErr result (λ code. IsTooMuch parts.now code) }
+    ensures refused { IfErr result (λ code. IsTooMuch 64 (stretches_told parts.now) code) }
 {
     if !are_message(parts) {
         return Err(TOO_MUCH);

@@ -1,2 +1,4 @@
+pub mod Faults
 pub mod Packed
 pub mod Told
+pub mod Written

@@ -7,6 +7,7 @@ ghost use Rattle.td_code.specs.Compile.{IsImageOf};
 ghost use Rattle.td_c_pack.specs.Packed.{IsPacking, MayRunOut, TellsSize};
 
 use crate::refusal::{TdPacked, tell_refusal};
+use crate::room::put;
 use std::alloc::Global;
 use td_code::packed_image;
 use td_front::{FrontError, check_module};
@@ -15,11 +16,7 @@ use td_num::items::Items;
 /// The most bytes that a text has.
 pub const MOST_TEXT: usize = td_core::limits::MOST_INPUT;
 
-const DONE: i32 = 0;
-
 const TOO_LONG: i32 = 21;
-
-const NO_ROOM: i32 = 23;
 
 // The image of the code of the module for which a text stands.
 fn image_of(alloc: Global, text: &[u8]) -> Result<Items<u8>, FrontError>
@@ -48,12 +45,7 @@ fn put_image(found: &[u8], image: &mut [u8], told: &mut TdPacked) -> i32
     ensures unwritten { result ≡ pos 23 → image.new ≡ image.old }
 {
     told.size = found.len() as u64;
-    if found.len() > image.len() {
-        return NO_ROOM;
-    }
-    let (front, _) = image.split_at_mut(found.len());
-    front.copy_from_slice(found);
-    DONE
+    put(found, image)
 }
 
 /// Checks a module text, and writes the image of its code where there is room, and no other byte. 0: it is written; 21: the text has more

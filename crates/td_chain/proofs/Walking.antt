@@ -1,5 +1,5 @@
 -- How far a walk has come, step by step.
-use Rattle.std.proofs.Common.{◌≡◌, ℕ, suc, ◌+◌, ◌-◌, ◌*◌, ◌<◌, ◌≤◌, cond, nat_lt, inl, subst, List, [], ◌∷◌, ◌++◌, append_assoc, append-nil, Some, Ok, Err, ap, sym, refl, ◌∙◌, arith}
+use Rattle.std.proofs.Common.{◌≡◌, ℕ, suc, ◌+◌, ◌-◌, ◌*◌, ◌<◌, ◌≤◌, cond, inl, subst, List, [], ◌∷◌, ◌++◌, append_assoc, append-nil, Some, Ok, Err, ap, sym, ◌∙◌, arith}
 use Rattle.std.specs.List.{All}
 use Rattle.std.proofs.lemmas.Bool.{lt-ltb}
 use Rattle.td_stream.specs.declared.load.Load.{Load}
@@ -15,7 +15,7 @@ use Rattle.td_chain.specs.declared.step.Move.TheVariants.{Table, Next, Last, Ref
 use Rattle.td_chain.specs.Loaded.{Holds, AreApart, Grown}
 use Rattle.td_chain.specs.Places.{IsAt, IsOpen}
 use Rattle.td_chain.specs.Walks.{IsWalk, come_to}
-use Rattle.td_chain.specs.Chain.{Chain, chain, after, whole, stopped, went, chained, begun, moved, descriptor_at}
+use Rattle.td_chain.specs.Chain.{Chain, after, stopped, went, chained, begun, moved, descriptor_at}
 use Rattle.td_chain.proofs.Growing.{holds_before}
 
 -- after k descriptors: what comes of the whole walk is these pieces, and what comes of it from here on

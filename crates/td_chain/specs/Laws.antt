@@ -5,8 +5,7 @@ use Rattle.td_chain.specs.declared.region.Region.{Region}
 use Rattle.td_chain.specs.declared.queue.Queue.{Queue}
 use Rattle.td_chain.specs.declared.piece.Piece.{Piece}
 use Rattle.td_chain.specs.declared.refusal.ChainError.{ChainError}
-use Rattle.td_chain.specs.declared.refusal.ChainError.TheVariants.{Beyond, Outside, NotAllowed, WithNext, BadTable, OutOfOrder, TooLarge, TooLong}
-use Rattle.td_chain.specs.declared.refusal.Refusal.{Refusal}
+use Rattle.td_chain.specs.declared.refusal.ChainError.TheVariants.{Beyond, Outside, NotAllowed, WithNext, BadTable, OutOfOrder, TooLong}
 use Rattle.td_chain.specs.Loaded.{Holds, AreApart}
 use Rattle.td_chain.specs.Chain.{Chain, chain}
 

@@ -1,5 +1,5 @@
 -- Where the addresses of a guest lie in its memory (own rule), and what a walk may look at.
-use Rattle.std.specs.Prelude.{◌≡◌, ◌⊎◌, ℕ, ◌+◌, ◌-◌, ◌*◌, ◌<◌, ◌≤◌, ◌^◌, Bool, ◌&&◌, cond, nat_le, List, [], ◌∷◌, Option, Some, None}
+use Rattle.std.specs.Prelude.{◌⊎◌, ℕ, ◌+◌, ◌-◌, ◌*◌, ◌<◌, ◌≤◌, ◌^◌, Bool, ◌&&◌, cond, nat_le, List, [], ◌∷◌, Option, Some, None}
 use Rattle.std.specs.List.{All, Contains}
 use Rattle.td_chain.specs.declared.region.Region.{Region}
 use Rattle.td_chain.specs.declared.queue.Queue.{Queue}

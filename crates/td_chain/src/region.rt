@@ -5,6 +5,7 @@ ghost use Rattle.td_chain.specs.Places.{AreWithin, InRegions, lies_in, translate
 
 /// A region of a guest's memory: its addresses, from `from` on and below `until`, and the byte of the memory at which it begins. One that
 /// ends where it begins, or before, has no bytes.
+#[repr(C)]
 #[derive(Clone, Copy, PartialEq, Eq, Debug)]
 pub struct Region {
     pub from: u64,

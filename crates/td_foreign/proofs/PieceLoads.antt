@@ -1,4 +1,4 @@
--- Pieces, their words, and the loads made of them.
+-- Pieces, their words, and the loads made of them. Cited by other crates.
 use Rattle.std.proofs.Common.{◌≡◌, ℕ, zero, suc, ◌+◌, ◌-◌, ◌*◌, ◌/◌, ◌<◌, ◌≤◌, inl, inr, Bool, cond, true, false, List, [], ◌∷◌, ◌++◌, length, map, get_or, slice_set, refl, sym, ap, ◌∙◌, subst, arith}
 use Rattle.std.specs.Prelude.{nat_eq}
 use Rattle.std.proofs.lemmas.Bool.{cases_eq, eq-eqb, ne_eqb}
@@ -46,7 +46,7 @@ pub fresh_loaded : (pieces : List TdPiece) → AreFresh pieces → AreLoaded pie
 fresh_loaded pieces h = λ k lt. made_fresh pieces k h
 
 -- shapes say how pieces lie
-abbrev stretch_by : ℕ × (ℕ × ℕ) → Stretch
+abbrev stretch_by : (ℕ × ℕ) × (ℕ × ℕ) → Stretch
 stretch_by x = record { place = x.1.0; size = x.1.1 }
 
 by_shapes : (pieces : List TdPiece) → layout_of pieces ≡ map stretch_by (map shape_of pieces)
@@ -121,8 +121,8 @@ made_of (p ∷ ps) (suc k) d h = made_of ps k d (omega (arith, h))
 
 pub shapes_set : (pieces : List TdPiece) (k : ℕ) (q d : TdPiece) → shape_of q ≡ shape_of (get_or pieces k d) → SameShapes pieces (slice_set pieces k q)
 shapes_set [] k q d h = refl
-shapes_set (p ∷ ps) zero q d h = ap (λ (x : ℕ × (ℕ × ℕ)). x ∷ map shape_of ps) h
-shapes_set (p ∷ ps) (suc k) q d h = ap (λ (xs : List (ℕ × (ℕ × ℕ))). shape_of p ∷ xs) (shapes_set ps k q d h)
+shapes_set (p ∷ ps) zero q d h = ap (λ (x : (ℕ × ℕ) × (ℕ × ℕ)). x ∷ map shape_of ps) h
+shapes_set (p ∷ ps) (suc k) q d h = ap (λ (xs : List ((ℕ × ℕ) × (ℕ × ℕ))). shape_of p ∷ xs) (shapes_set ps k q d h)
 
 get_set : (pieces : List TdPiece) (k : ℕ) (q d : TdPiece) → k < length pieces → get_or (slice_set pieces k q) k d ≡ q
 get_set [] k q d h = absurd (omega (arith, h))
@@ -147,7 +147,7 @@ is_load a k d out back e i v lt count made =
     let q : TdPiece = get_or (slice_set a k o) k e in
     let r : TdPiece = record { words = back; count = q.count; place = q.place; size = q.size } in
     let same : q ≡ o = get_set a k o e lt in
-    let shape : shape_of r ≡ shape_of p = λ j. (count j, ((same j).place, (same j).size)) in
+    let shape : shape_of r ≡ shape_of p = λ j. ((count j, (same j).count), ((same j).place, (same j).size)) in
     subst (λ (b : List TdPiece). IsLoad a b k i v) (sym (set_twice a k o r)) (record {
       shapes = shapes_set a k r d shape;
       made = made_set a k r lt ∙ made ∙ ap (λ (xs : List Load). xs ++ (record { word = i; value = v }) ∷ []) (sym (made_of a k d lt));
@@ -158,9 +158,9 @@ is_load a k d out back e i v lt count made =
 shape_at : (a b : List TdPiece) (k : ℕ) (d : TdPiece) → SameShapes a b → k < length b → shape_of (get_or b k d) ≡ shape_of (get_or a k d)
 shape_at a b k d h lt =
     let size = same_length a b h in
-    sym (get_or-map shape_of b k d (shape_of d) lt) ∙ ap (λ (l : List (ℕ × (ℕ × ℕ))). get_or l k (shape_of d)) h ∙ get_or-map shape_of a k d (shape_of d) (omega (arith, lt, size))
+    sym (get_or-map shape_of b k d (shape_of d) lt) ∙ ap (λ (l : List ((ℕ × ℕ) × (ℕ × ℕ))). get_or l k (shape_of d)) h ∙ get_or-map shape_of a k d (shape_of d) (omega (arith, lt, size))
 
 pub same_whole : (a b : List TdPiece) → SameShapes a b → AreWhole a → AreWhole b
 same_whole a b h whole = λ k d lt.
     let size = same_length a b h in
-    subst (λ (x : ℕ × (ℕ × ℕ)). x.1.0 + x.1.1 ≤ 8 * x.0) (sym (shape_at a b k d h lt)) (whole k d (omega (arith, lt, size)))
+    subst (λ (x : (ℕ × ℕ) × (ℕ × ℕ)). x.1.0 + x.1.1 ≤ 8 * x.0.0) (sym (shape_at a b k d h lt)) (whole k d (omega (arith, lt, size)))

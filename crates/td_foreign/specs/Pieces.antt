@@ -46,9 +46,9 @@ loads_in layout k (l ∷ loads) =
 abbrev pub AreLoaded : List TdPiece → List Load → Type 0
 AreLoaded pieces loads = (k : ℕ) → k < length pieces → made_at pieces k ≡ loads_in (layout_of pieces) k loads
 
--- how many words each piece has, and where in them it lies
-abbrev pub shape_of : TdPiece → ℕ × (ℕ × ℕ)
-shape_of p = (p.words.count, (p.place, p.size))
+-- how many words each piece has, the count beside them, and where in them it lies
+abbrev pub shape_of : TdPiece → (ℕ × ℕ) × (ℕ × ℕ)
+shape_of p = ((p.words.count, p.count), (p.place, p.size))
 
 abbrev pub SameShapes : List TdPiece → List TdPiece → Type 0
 SameShapes a b = map shape_of b ≡ map shape_of a

@@ -2,11 +2,13 @@
 //! is told is one atomic load of the word of the memory that the layout gives it, and there are no other loads.
 #![tactic(auto)]
 
+mod anywhere;
 mod foreign;
 mod memory;
 mod noted;
 mod pieces;
 
+pub use anywhere::ForeignMemory;
 pub use foreign::ForeignWords;
 pub use memory::TdWords;
 pub use noted::{NotedWords, TdLoad};

@@ -5,6 +5,7 @@ pub mod Unique
 pub mod Fetching
 pub mod Wholes
 pub mod Memory
+pub mod TakeMemory
 pub mod Gathers
 pub mod Orders
 pub mod Serves

@@ -1,19 +1,19 @@
 //! Makes what acts in a job, in rooms that are taken for it. Where a value is let go, each way through its variants is a way through the
 //! function. So what has many is let go by a call.
 
-ghost use Rattle.std.specs.Prelude.{◌≡◌, ◌+◌, ◌-◌, ◌*◌, ◌<◌, ◌^◌, List, [], ◌∷◌, ◌++◌, length, IfOk, OnOk, Some};
+ghost use Rattle.std.specs.Prelude.{◌≡◌, ◌+◌, ◌-◌, ◌*◌, ◌<◌, ◌^◌, List, [], ◌∷◌, ◌++◌, map, length, IfOk, OnOk, Some};
 ghost use Rattle.std.specs.List.{All};
 ghost use Rattle.td_ring.specs.declared.post.Post.{Post};
 ghost use Rattle.td_posts.specs.Posts.{mails_of, all_mails, mail_named, scattered};
 ghost use Rattle.td_posts.specs.Servable.{IsServable};
 ghost use Rattle.td_core.specs.declared.module.Module.{Module};
-ghost use Rattle.td_host_actors.specs.Acting.{PostFits, most_frames, RoomsFor};
+ghost use Rattle.td_host_actors.specs.Acting.{PostFits, most_frames, first_frames, RoomsFor};
 ghost use Rattle.td_host.specs.Hosts.{IsOpened, AreFresh, IsCrew};
 ghost use Rattle.td_host_actors.specs.Actors.{service_at};
 ghost use Rattle.td_host_actors.specs.declared.actor.Actor.TheVariants as kind;
-ghost use Rattle.td_host.specs.Gathered.{Armed, IsBounded, host_at, posts_at, takes_at, draws_at, swap_at, WorkersSeated, GuestsSeated, AreReadersOf, IsReaderBy, IsDescribedBy};
+ghost use Rattle.td_host.specs.Gathered.{Armed, IsBounded, host_at, posts_at, takes_at, draws_at, swap_at, WorkersSeated, GuestsSeated, AreReadersOf, IsReaderBy, IsDescribedBy, reader_frames, HasTakeRooms};
 
-use crate::gather::{Heads, VersionSeats};
+use crate::gather::{Collected, Heads, VersionSeats};
 use crate::rings::seat_takers;
 use crate::rooms::{crew_rooms, rooms_for, worker_rooms};
 use crate::script::copied_script;
@@ -208,6 +208,7 @@ fn seat_all<J: Naming, G: Drop>(
         × Armed J.names desk.now.shared desk.now.ring (service_at desk.now) desk.now.job heads.new.seat heads.new.posts heads.new.takes heads.new.drawer before) }
     ensures swap { OnOk result (swap.new ≡ swap_at desk.now.codes desk.now.job.workers) }
     ensures described { (m : Module) → All (IsReaderBy m) descrs.items → OnOk result (All (IsDescribedBy m) actors.new.items) }
+    ensures take_memory { OnOk result (All (HasTakeRooms (first_frames desk.now.codes.codes) (map reader_frames descrs.items) desk.now.job) actors.new.items) }
 {
     let mut gates = gates;
     let guest_gates = gates.split_off(desk.job.workers as usize)?;
@@ -237,6 +238,7 @@ pub(crate) fn make_crew<J: Naming, G: Drop>(
     requires fitting_are_named { (p : Post) → PostFits (most_frames desk.now.codes.codes) desk.now.job p → J.names p }
     ensures crew { IfOk result (λ crew. IsCrew J.names desk.now crew) }
     ensures described { (m : Module) → All (IsReaderBy m) descrs.items → IfOk result (λ crew. All (IsDescribedBy m) crew.actors.items) }
+    ensures take_memory { IfOk result (λ crew. All (HasTakeRooms (first_frames desk.now.codes.codes) (map reader_frames descrs.items) desk.now.job) crew.actors.items) }
 {
     match crew_rooms(alloc, desk) {
         Ok(rooms) => {
@@ -258,12 +260,14 @@ pub(crate) fn make_crew<J: Naming, G: Drop>(
                 &mut actors,
             ) {
                 Ok(()) => Ok(Crew {
-                    heads,
-                    swap,
+                    into: Collected {
+                        heads,
+                        swap,
+                        found: rooms.found,
+                        takes: rooms.takes,
+                    },
                     actors,
-                    found: rooms.found,
                     replies: rooms.replies,
-                    takes: rooms.takes,
                 }),
                 Err(error) => {
                     drop(heads);

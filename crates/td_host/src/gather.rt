@@ -4,14 +4,14 @@
 ghost use Rattle.std.specs.Prelude.{◌≡◌, ◌+◌, ◌≤◌, ◌++◌, length, vec_capacity};
 ghost use Rattle.std.specs.List.{All};
 ghost use Rattle.td_words.specs.Seats.{with_view};
-ghost use Rattle.td_words.specs.Views.{with_ended};
 ghost use Rattle.td_ring.specs.Heads.{HasHead};
-ghost use Rattle.td_ring.specs.Ring.{pass_with, with_put, with_take};
-ghost use Rattle.td_ring.specs.Tickets.{drawer_with, with_seat};
+ghost use Rattle.td_ring.specs.Ring.{pass_with};
+ghost use Rattle.td_ring.specs.Tickets.{drawer_with};
 ghost use Rattle.td_swap.specs.Views.{AreVersions};
-ghost use Rattle.td_swap.specs.Seats.{IsOwn, then_gathered, swap_state};
-ghost use Rattle.td_host_actors.specs.Actors.{replies_of};
-ghost use Rattle.td_host.specs.Gathered.{IsAt, view_of, put_one, take_one, draw_one, swap_one, takes_of, seats_all, puts_all, takes_all, draws_all, swaps_all, all_replies, takes_of_all};
+ghost use Rattle.td_swap.specs.Seats.{swap_state};
+ghost use Rattle.td_host_actors.specs.declared.actor.Actor.TheVariants as kind;
+ghost use Rattle.td_host.specs.Gathered.{IsAt, seats_all, puts_all, takes_all, draws_all, swaps_all, all_replies, takes_of_all};
+ghost use Rattle.td_host.specs.Collecting.{MayCollect, HasRoomFor, CollectsOne};
 
 use td_host_actors::actor::{Actor, Desk, Guest, Taker, Worker};
 use td_posts::reply::Reply;
@@ -38,29 +38,24 @@ pub struct VersionSeats {
     pub swap: SwapSeat,
 }
 
+/// What the host collects: what it acts with, the seat that gathers those at the version word, and the replies and the takes so far.
+#[derive(Drop)]
+pub struct Collected {
+    pub heads: Heads,
+    /// The seat that made those with which the workers load which version is published.
+    pub swap: SwapSeat,
+    /// Room for all replies that the workers may make.
+    pub found: Vec<Reply>,
+    /// Room for all takes.
+    pub takes: Vec<Take>,
+}
+
 /// Takes back what a worker had.
-fn gather_worker<J: Naming, G: Drop>(
-    desk: &Desk<J>,
-    heads: &mut Heads,
-    swap: &mut SwapSeat,
-    found: &mut Vec<Reply>,
-    worker: Worker<G>,
-)
-    requires seat { heads.old.seat.table ≡ desk.now.shared.table }
-    requires passes { (heads.old.posts.queue ≡ desk.now.ring.queue) × (heads.old.takes.queue ≡ desk.now.ring.queue) }
-    requires drawer { heads.old.drawer.table ≡ desk.now.tickets }
-    requires first { HasHead heads.old.posts.view.put_head × HasHead heads.old.takes.view.take_head × HasHead heads.old.drawer.view.head }
-    requires at { (worker.seat.table ≡ desk.now.shared.table) × (worker.pass.queue ≡ desk.now.ring.queue) × (worker.drawer.table ≡ desk.now.tickets) }
-    requires versions { IsOwn desk.now.codes swap.old × IsOwn desk.now.codes worker.swap }
-    requires room { length found.old.items + length worker.replies.items ≤ vec_capacity found.old }
-    ensures seat { heads.new.seat ≡ with_view heads.old.seat (with_ended heads.old.seat.view worker.seat.view) }
-    ensures posts { heads.new.posts ≡ heads.old.posts }
-    ensures takes { heads.new.takes ≡ pass_with heads.old.takes (with_take heads.old.takes.view worker.pass.view) }
-    ensures drawer { heads.new.drawer ≡ drawer_with heads.old.drawer (with_seat heads.old.drawer.view worker.drawer.view) }
-    ensures swap { swap.new ≡ then_gathered swap.old worker.swap }
-    ensures versions { AreVersions swap.new.view }
-    ensures found { found.new.items ≡ found.old.items ++ worker.replies.items }
-    ensures capacity { vec_capacity found.old ≤ vec_capacity found.new }
+fn gather_worker<J: Naming, G: Drop>(desk: &Desk<J>, into: &mut Collected, worker: Worker<G>)
+    requires ready { MayCollect desk.now into.old }
+    requires at { IsAt desk.now.shared desk.now.ring desk.now.tickets desk.now.codes (kind.Worker worker) }
+    requires room { HasRoomFor into.old (kind.Worker worker) }
+    ensures { CollectsOne into.old into.new (kind.Worker worker) }
 {
     let Worker {
         seat,
@@ -72,26 +67,20 @@ fn gather_worker<J: Naming, G: Drop>(
         gate: _,
     } = worker;
     let mut replies = replies;
-    let Ok(()) = found.append(&mut replies) else {
+    let Ok(()) = into.found.append(&mut replies) else {
         unreachable!()
     };
-    desk.shared.gather_reader(&mut heads.seat, seat);
-    desk.ring.gather_take(&mut heads.takes, pass);
-    desk.tickets.gather(&mut heads.drawer, drawer);
-    desk.codes.gather(swap, loaded);
+    desk.shared.gather_reader(&mut into.heads.seat, seat);
+    desk.ring.gather_take(&mut into.heads.takes, pass);
+    desk.tickets.gather(&mut into.heads.drawer, drawer);
+    desk.codes.gather(&mut into.swap, loaded);
 }
 
 /// Takes back what a guest had.
-fn gather_guest<J: Naming, G: Drop>(desk: &Desk<J>, heads: &mut Heads, guest: Guest<G>)
-    requires seat { heads.old.seat.table ≡ desk.now.shared.table }
-    requires passes { (heads.old.posts.queue ≡ desk.now.ring.queue) × (heads.old.takes.queue ≡ desk.now.ring.queue) }
-    requires drawer { heads.old.drawer.table ≡ desk.now.tickets }
-    requires first { HasHead heads.old.posts.view.put_head × HasHead heads.old.takes.view.take_head × HasHead heads.old.drawer.view.head }
-    requires at { (guest.seat.table ≡ desk.now.shared.table) × (guest.pass.queue ≡ desk.now.ring.queue) }
-    ensures seat { heads.new.seat ≡ with_view heads.old.seat (with_ended heads.old.seat.view guest.seat.view) }
-    ensures posts { heads.new.posts ≡ pass_with heads.old.posts (with_put heads.old.posts.view guest.pass.view) }
-    ensures takes { heads.new.takes ≡ heads.old.takes }
-    ensures drawer { heads.new.drawer ≡ heads.old.drawer }
+fn gather_guest<J: Naming, G: Drop>(desk: &Desk<J>, into: &mut Collected, guest: Guest<G>)
+    requires ready { MayCollect desk.now into.old }
+    requires at { IsAt desk.now.shared desk.now.ring desk.now.tickets desk.now.codes (kind.Guest guest) }
+    ensures { CollectsOne into.old into.new (kind.Guest guest) }
 {
     let Guest {
         number: _,
@@ -101,8 +90,8 @@ fn gather_guest<J: Naming, G: Drop>(desk: &Desk<J>, heads: &mut Heads, guest: Gu
         rooms: _,
         gate: _,
     } = guest;
-    desk.shared.gather_guest(&mut heads.seat, seat);
-    desk.ring.gather_post(&mut heads.posts, pass);
+    desk.shared.gather_guest(&mut into.heads.seat, seat);
+    desk.ring.gather_post(&mut into.heads.posts, pass);
 }
 
 /// The seat and the takes of a taker, alone.
@@ -124,91 +113,52 @@ fn parts_of(taker: Taker) -> (ReadSeat, Vec<Take>)
     (seat, takes)
 }
 
-/// Takes back what a ring's taker had.
-fn gather_taker<J: Naming>(desk: &Desk<J>, heads: &mut Heads, takes: &mut Vec<Take>, taker: Taker)
-    requires seat { heads.old.seat.table ≡ desk.now.shared.table }
+/// Takes back what a ring's taker had; G is of no account.
+fn gather_taker<J: Naming, G: Drop>(desk: &Desk<J>, into: &mut Collected, taker: Taker)
+    requires ready { MayCollect desk.now into.old }
     requires at { taker.seat.table ≡ desk.now.shared.table }
-    requires room { length takes.old.items + length taker.takes.items ≤ vec_capacity takes.old }
-    ensures seat { heads.new.seat ≡ with_view heads.old.seat (with_ended heads.old.seat.view taker.seat.view) }
-    ensures posts { heads.new.posts ≡ heads.old.posts }
-    ensures takes { heads.new.takes ≡ heads.old.takes }
-    ensures drawer { heads.new.drawer ≡ heads.old.drawer }
-    ensures made { takes.new.items ≡ takes.old.items ++ taker.takes.items }
-    ensures capacity { vec_capacity takes.old ≤ vec_capacity takes.new }
+    requires room { HasRoomFor {G = G} into.old (kind.Ring taker) }
+    ensures { CollectsOne {G = G} into.old into.new (kind.Ring taker) }
 {
     let (reader, mut made) = parts_of(taker);
-    let Ok(()) = takes.append(&mut made) else {
+    let Ok(()) = into.takes.append(&mut made) else {
         unreachable!()
     };
-    desk.shared.gather_reader(&mut heads.seat, reader);
+    desk.shared.gather_reader(&mut into.heads.seat, reader);
 }
 
 /// Takes back what one actor had, who isn't the publisher.
-fn gather_one<J: Naming, G: Drop>(
-    desk: &Desk<J>,
-    heads: &mut Heads,
-    swap: &mut SwapSeat,
-    found: &mut Vec<Reply>,
-    takes: &mut Vec<Take>,
-    actor: Actor<G>,
-)
-    requires seat { heads.old.seat.table ≡ desk.now.shared.table }
-    requires passes { (heads.old.posts.queue ≡ desk.now.ring.queue) × (heads.old.takes.queue ≡ desk.now.ring.queue) }
-    requires drawer { heads.old.drawer.table ≡ desk.now.tickets }
-    requires first { HasHead heads.old.posts.view.put_head × HasHead heads.old.takes.view.take_head × HasHead heads.old.drawer.view.head }
+fn gather_one<J: Naming, G: Drop>(desk: &Desk<J>, into: &mut Collected, actor: Actor<G>)
+    requires ready { MayCollect desk.now into.old }
     requires at { IsAt desk.now.shared desk.now.ring desk.now.tickets desk.now.codes actor }
-    requires own { IsOwn desk.now.codes swap.old }
-    requires versions { AreVersions swap.old.view }
-    requires room { length found.old.items + length (replies_of actor) ≤ vec_capacity found.old }
-    requires take_room { length takes.old.items + length (takes_of actor) ≤ vec_capacity takes.old }
-    ensures seat { heads.new.seat ≡ with_view heads.old.seat (with_ended heads.old.seat.view (view_of actor)) }
-    ensures posts { heads.new.posts ≡ pass_with heads.old.posts (put_one heads.old.posts.view actor) }
-    ensures takes { heads.new.takes ≡ pass_with heads.old.takes (take_one heads.old.takes.view actor) }
-    ensures drawer { heads.new.drawer ≡ drawer_with heads.old.drawer (draw_one heads.old.drawer.view actor) }
-    ensures swap { swap.new ≡ swap_state swap.old.table (swap_one swap.old.view actor) }
-    ensures versions { AreVersions swap.new.view }
-    ensures found { found.new.items ≡ found.old.items ++ replies_of actor }
-    ensures capacity { vec_capacity found.old ≤ vec_capacity found.new }
-    ensures made { takes.new.items ≡ takes.old.items ++ takes_of actor }
-    ensures take_capacity { vec_capacity takes.old ≤ vec_capacity takes.new }
+    requires room { HasRoomFor into.old actor }
+    ensures { CollectsOne into.old into.new actor }
 {
     match actor {
-        Actor::Worker(worker) => gather_worker(desk, heads, swap, found, worker),
-        Actor::Guest(guest) => gather_guest(desk, heads, guest),
-        Actor::Ring(taker) => gather_taker(desk, heads, takes, taker),
+        Actor::Worker(worker) => gather_worker(desk, into, worker),
+        Actor::Guest(guest) => gather_guest(desk, into, guest),
+        Actor::Ring(taker) => gather_taker::<J, G>(desk, into, taker),
         Actor::Publisher(_) => unreachable!(),
     }
 }
 
 /// Takes back what all actors but the publisher had, in order. The lists have room for their replies and takes, so this takes no memory.
-pub fn gather_all<J: Naming, G: Drop>(
-    desk: &Desk<J>,
-    heads: &mut Heads,
-    swap: &mut SwapSeat,
-    found: &mut Vec<Reply>,
-    takes: &mut Vec<Take>,
-    actors: Vec<Actor<G>>,
-)
-    requires seat { heads.old.seat.table ≡ desk.now.shared.table }
-    requires passes { (heads.old.posts.queue ≡ desk.now.ring.queue) × (heads.old.takes.queue ≡ desk.now.ring.queue) }
-    requires drawer { heads.old.drawer.table ≡ desk.now.tickets }
-    requires first { HasHead heads.old.posts.view.put_head × HasHead heads.old.takes.view.take_head × HasHead heads.old.drawer.view.head }
+pub fn gather_all<J: Naming, G: Drop>(desk: &Desk<J>, into: &mut Collected, actors: Vec<Actor<G>>)
+    requires ready { MayCollect desk.now into.old }
     requires at { All (IsAt desk.now.shared desk.now.ring desk.now.tickets desk.now.codes) actors.items }
-    requires own { IsOwn desk.now.codes swap.old }
-    requires versions { AreVersions swap.old.view }
-    requires room { length found.old.items + length (all_replies actors.items) ≤ vec_capacity found.old }
-    requires take_room { length takes.old.items + length (takes_of_all actors.items) ≤ vec_capacity takes.old }
-    ensures seat { heads.new.seat ≡ with_view heads.old.seat (seats_all heads.old.seat.view actors.items) }
-    ensures posts { heads.new.posts ≡ pass_with heads.old.posts (puts_all heads.old.posts.view actors.items) }
-    ensures takes { heads.new.takes ≡ pass_with heads.old.takes (takes_all heads.old.takes.view actors.items) }
-    ensures drawer { heads.new.drawer ≡ drawer_with heads.old.drawer (draws_all heads.old.drawer.view actors.items) }
-    ensures first { HasHead heads.new.posts.view.put_head × HasHead heads.new.takes.view.take_head }
-    ensures swap { swap.new ≡ swap_state swap.old.table (swaps_all swap.old.view actors.items) }
-    ensures versions { AreVersions swap.new.view }
-    ensures found { found.new.items ≡ found.old.items ++ all_replies actors.items }
-    ensures made { takes.new.items ≡ takes.old.items ++ takes_of_all actors.items }
+    requires room { length into.old.found.items + length (all_replies actors.items) ≤ vec_capacity into.old.found }
+    requires take_room { length into.old.takes.items + length (takes_of_all actors.items) ≤ vec_capacity into.old.takes }
+    ensures seat { into.new.heads.seat ≡ with_view into.old.heads.seat (seats_all into.old.heads.seat.view actors.items) }
+    ensures posts { into.new.heads.posts ≡ pass_with into.old.heads.posts (puts_all into.old.heads.posts.view actors.items) }
+    ensures takes { into.new.heads.takes ≡ pass_with into.old.heads.takes (takes_all into.old.heads.takes.view actors.items) }
+    ensures drawer { into.new.heads.drawer ≡ drawer_with into.old.heads.drawer (draws_all into.old.heads.drawer.view actors.items) }
+    ensures first { HasHead into.new.heads.posts.view.put_head × HasHead into.new.heads.takes.view.take_head }
+    ensures swap { into.new.swap ≡ swap_state into.old.swap.table (swaps_all into.old.swap.view actors.items) }
+    ensures versions { AreVersions into.new.swap.view }
+    ensures found { into.new.found.items ≡ into.old.found.items ++ all_replies actors.items }
+    ensures made { into.new.takes.items ≡ into.old.takes.items ++ takes_of_all actors.items }
 {
     for actor in actors {
-        gather_one(desk, heads, swap, found, takes, actor);
+        gather_one(desk, into, actor);
     }
 }

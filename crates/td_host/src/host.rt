@@ -1,15 +1,15 @@
 //! A host: armed for a job, it serves the job's posts, and makes the takes of its rings, once. Where a value is let go, each way
 //! through its variants is a way through the function. So what has many is let go by a call.
 
-ghost use Rattle.std.specs.Prelude.{◌≡◌, ◌+◌, ◌*◌, [], length, IfOk};
+ghost use Rattle.std.specs.Prelude.{◌≡◌, ℕ, ◌+◌, ◌*◌, List, [], map, length, IfOk};
 ghost use Rattle.std.specs.List.{All};
 ghost use Rattle.td_core.specs.declared.module.Module.{Module};
 ghost use Rattle.td_ring.specs.declared.post.Post.{Post};
-ghost use Rattle.td_host_actors.specs.Acting.{PostFits, IsInRoom, most_frames};
+ghost use Rattle.td_host_actors.specs.Acting.{PostFits, IsInRoom, IsTakeInRoom, most_frames, first_frames};
 ghost use Rattle.td_posts.specs.Servable.{IsServable};
 ghost use Rattle.td_host_actors.specs.Replies.{IsJobCode};
-ghost use Rattle.td_host.specs.Gathered.{AreReadersOf, IsReaderBy};
-ghost use Rattle.td_host.specs.Hosts.{IsHostArmed, IsOpened, AreFresh, HasDescribed, IsServed, replies_in, takes_made, published_in};
+ghost use Rattle.td_host.specs.Gathered.{AreReadersOf, IsReaderBy, reader_frames};
+ghost use Rattle.td_host.specs.Hosts.{IsHostArmed, IsOpened, AreFresh, HasDescribed, HasTakeMemory, IsServed, replies_in, takes_made, published_in};
 
 use crate::arm::make_crew;
 use crate::desk::open_desk;
@@ -60,6 +60,7 @@ impl<J: Naming + Send + Sync, G: Gate + Send + Drop> Host<J, G> {
         ensures codes { IfOk result (λ h. h.desk.codes.codes ≡ codes.items) }
         ensures job { IfOk result (λ h. h.desk.job ≡ job) }
         ensures described { (m : Module) → All (IsReaderBy m) descrs.items → IfOk result (HasDescribed m) }
+        ensures take_memory { IfOk result (HasTakeMemory (map reader_frames descrs.items)) }
     {
         let (desk, heads, versions) = open_desk::<J>(alloc, codes, job)?;
         Host::at_desk(alloc, desk, heads, versions, descrs, gates)
@@ -85,6 +86,7 @@ impl<J: Naming + Send + Sync, G: Gate + Send + Drop> Host<J, G> {
         ensures armed { IfOk result (λ h. IsHostArmed J.names h) }
         ensures desk { IfOk result (λ h. h.desk ≡ desk) }
         ensures described { (m : Module) → All (IsReaderBy m) descrs.items → IfOk result (HasDescribed m) }
+        ensures take_memory { IfOk result (HasTakeMemory (map reader_frames descrs.items)) }
     {
         match make_crew(alloc, &desk, heads, versions, descrs, gates) {
             Ok(crew) => Ok(Host {
@@ -101,12 +103,13 @@ impl<J: Naming + Send + Sync, G: Gate + Send + Drop> Host<J, G> {
 
     /// Serves the job's posts, and meanwhile makes the takes of its rings, and publishes its versions one after the other: each worker,
     /// each guest's script, each ring's taker and the publisher run in a thread of their own where one can be made, and else in turn. To
-    /// be called once. It takes no memory: `arm` took all room, and the lists of a reply have that of its post's room still.
+    /// be called once. It takes no memory: `arm` took all room, and the lists of a reply have that of its post's or take's room still.
     pub fn serve<R: Threads + Wait + Sync>(&mut self, rt: &R)
         requires { IsHostArmed J.names self.old }
         ensures desk { self.new.desk ≡ self.old.desk }
         ensures served { (m : Module) → HasDescribed m self.old → IsServed m self.new }
         ensures memory { All (IsInRoom self.new.desk.codes.codes self.new.desk.job) (replies_in self.new.finished) }
+        ensures take_memory { (ns : List ℕ) → HasTakeMemory ns self.old → All (IsTakeInRoom (first_frames self.new.desk.codes.codes) ns self.new.desk.job) (takes_made self.new.finished) }
     {
         let Some(crew) = self.crew.take() else {
             unreachable!()

@@ -1,11 +1,11 @@
 //! A job, from its arming to its replies and takes.
 
-ghost use Rattle.std.specs.Prelude.{◌≡◌, ◌+◌, ◌*◌, length, IfOk};
+ghost use Rattle.std.specs.Prelude.{◌≡◌, ◌+◌, ◌*◌, map, length, IfOk};
 ghost use Rattle.std.specs.List.{All};
 ghost use Rattle.td_core.specs.declared.module.Module.{Module};
-ghost use Rattle.td_host.specs.Gathered.{AreReadersOf, IsReaderBy};
+ghost use Rattle.td_host.specs.Gathered.{AreReadersOf, IsReaderBy, reader_frames};
 ghost use Rattle.td_ring.specs.declared.post.Post.{Post};
-ghost use Rattle.td_host_actors.specs.Acting.{PostFits, IsInRoom, most_frames};
+ghost use Rattle.td_host_actors.specs.Acting.{PostFits, IsInRoom, IsTakeInRoom, most_frames, first_frames};
 ghost use Rattle.td_posts.specs.Servable.{IsServable};
 ghost use Rattle.td_host_actors.specs.Replies.{IsJobCode};
 ghost use Rattle.td_host.specs.Hosts.{IsServedJob};
@@ -39,6 +39,7 @@ fn serve_under<J: Naming + Send + Sync, R: Threads + Wait + Sync, G: Gate + Send
     ensures job { IfOk result (λ r. r.job ≡ job) }
     ensures served { (m : Module) → All (IsReaderBy m) descrs.items → IfOk result (λ r. IsServedJob m job r.replies r.takes) }
     ensures memory { IfOk result (λ r. All (IsInRoom codes.items job) r.replies) }
+    ensures take_memory { IfOk result (λ r. All (IsTakeInRoom (first_frames codes.items) (map reader_frames descrs.items) job) r.takes) }
 {
     let mut host = Host::<J, G>::arm(alloc, codes, job, descrs, gates)?;
     host.serve(rt);
@@ -47,7 +48,7 @@ fn serve_under<J: Naming + Send + Sync, R: Threads + Wait + Sync, G: Gate + Send
 
 /// Serves the posts of a job that is done by these codes, one for each of its versions, in their order, and makes the takes of
 /// its rings by these readers, one for each ring, in their order, with a gate for each worker and then one for each guest. It
-/// gives the job back with the replies, by guest and number, each in the memory of its room, and the takes, by ring and number.
+/// gives the job back with the replies, by guest and number, and the takes, by ring and number, each in the memory of its room.
 /// `AllocError`: there was no memory for the room; then no thread was started and no word loaded.
 pub fn serve_job<R: Threads + Wait + Sync, G: Gate + Send + Drop>(
     rt: &R,
@@ -64,6 +65,7 @@ pub fn serve_job<R: Threads + Wait + Sync, G: Gate + Send + Drop>(
     ensures job { IfOk result (λ r. r.job ≡ job) }
     ensures served { (m : Module) → All (IsReaderBy m) descrs.items → IfOk result (λ r. IsServedJob m job r.replies r.takes) }
     ensures memory { IfOk result (λ r. All (IsInRoom codes.items job) r.replies) }
+    ensures take_memory { IfOk result (λ r. All (IsTakeInRoom (first_frames codes.items) (map reader_frames descrs.items) job) r.takes) }
 {
     serve_under::<Brand, R, G>(rt, alloc, codes, job, descrs, gates)
 }

@@ -8,7 +8,7 @@ use std::alloc::{AllocError, Global};
 use td_stream::copies::Buffer;
 
 /// So many zeros, with memory for just these. `AllocError`: there was no memory for them; never for none.
-pub fn zeros_of(alloc: Global, count: u32) -> Result<Vec<u64>, AllocError>
+pub(crate) fn zeros_of(alloc: Global, count: u32) -> Result<Vec<u64>, AllocError>
     ensures zeros { IfOk result (λ list. list.items ≡ zeros count) }
     ensures memory { IfOk result (λ list. vec_capacity list ≡ count) }
     ensures cause { OnErr result (0 < count) }
@@ -22,7 +22,7 @@ pub fn zeros_of(alloc: Global, count: u32) -> Result<Vec<u64>, AllocError>
 
 /// An empty buffer of each room, in bytes, with memory for just so many buffers. `AllocError`: there was no memory for them; never
 /// for no rooms.
-pub fn buffers_of(alloc: Global, rooms: &[u32]) -> Result<Vec<Buffer>, AllocError>
+pub(crate) fn buffers_of(alloc: Global, rooms: &[u32]) -> Result<Vec<Buffer>, AllocError>
     ensures empty { IfOk result (λ list. list.items ≡ map empty_with rooms.now) }
     ensures memory { IfOk result (λ list. vec_capacity list ≡ length rooms.now) }
     ensures cause { OnErr result (0 < length rooms.now) }

@@ -1,14 +1,15 @@
 //! Makes the takers of a job's rings, and takes all room for their takes. Where a value is let go, each way through its variants is a
 //! way through the function. So what has many is let go by a call.
 
-ghost use Rattle.std.specs.Prelude.{◌≡◌, ◌*◌, ◌<◌, ◌≤◌, [], length, vec_capacity, IfOk, OnOk};
+ghost use Rattle.std.specs.Prelude.{◌≡◌, ◌*◌, ◌<◌, ◌≤◌, [], map, length, vec_capacity, IfOk, OnOk};
 ghost use Rattle.std.specs.List.{All};
 ghost use Rattle.td_posts.specs.Servable.{IsRingWithin};
 ghost use Rattle.td_posts.specs.declared.limits.TheConstants.{MOST_RINGS, MOST_TAKES};
-ghost use Rattle.td_takes.specs.Takes.{IsRoom, AreRooms};
+ghost use Rattle.td_takes.specs.Takes.{IsRoom, AreRooms, frames_of};
+ghost use Rattle.td_host_actors.specs.Acting.{IsTakeRoom, first_frames};
 ghost use Rattle.td_host_actors.specs.Actors.{service_at, IsTakerReady};
 ghost use Rattle.td_host.specs.Hosts.{takes_in};
-ghost use Rattle.td_host.specs.Gathered.{host_at, TakersSeated, IsReaderOf, AreReadersOf};
+ghost use Rattle.td_host.specs.Gathered.{host_at, TakersSeated, IsReaderOf, AreReadersOf, reader_frames, HasTakeRooms};
 
 use crate::gather::Heads;
 use crate::rooms::room_for;
@@ -37,7 +38,8 @@ fn take_room(
     desc_frames: usize,
     ring: RingJob,
 ) -> Result<TakeRoom, AllocError>
-    ensures { IfOk result (λ r. IsRoom job.now frames desc_frames ring.most r) }
+    ensures room { IfOk result (λ r. IsRoom job.now frames desc_frames ring.most r) }
+    ensures memory { IfOk result (λ r. IsTakeRoom frames desc_frames job.now r) }
 {
     let nobody = PostName {
         guest: 0,
@@ -59,6 +61,7 @@ fn take_rooms(
 ) -> Result<VecDeque<TakeRoom>, AllocError>
     ensures rooms { IfOk result (λ rooms. AreRooms job.now frames desc_frames ring.most rooms.items) }
     ensures as_many { IfOk result (λ rooms. length rooms.items ≡ ring.takes) }
+    ensures memory { IfOk result (λ rooms. All (IsTakeRoom frames desc_frames job.now) rooms.items) }
 {
     let mut rooms = VecDeque::new(alloc);
     for _take in 0..ring.takes {
@@ -77,6 +80,7 @@ fn rooms_and_takes(
 ) -> Result<(VecDeque<TakeRoom>, Vec<Take>), AllocError>
     ensures rooms { IfOk result (λ r. AreRooms job.now frames desc_frames ring.most r.0.items) }
     ensures as_many { IfOk result (λ r. length r.0.items ≡ ring.takes) }
+    ensures memory { IfOk result (λ r. All (IsTakeRoom frames desc_frames job.now) r.0.items) }
     ensures empty { IfOk result (λ r. r.1.items ≡ []) }
     ensures space { IfOk result (λ r. ring.takes ≤ vec_capacity r.1) }
 {
@@ -109,6 +113,7 @@ fn taker_for<J: Naming>(
     ensures descr { IfOk result (λ t. t.descr ≡ descr) }
     ensures seat { IfOk result (λ t. t.seat ≡ seat) }
     ensures ready { IfOk result (λ t. IsTakerReady desk.now.shared desk.now.codes.codes desk.now.job t) }
+    ensures memory { IfOk result (λ t. All (IsTakeRoom (first_frames desk.now.codes.codes) (frames_of descr.code) desk.now.job) t.rooms.items) }
 {
     let versions = desk.codes.versions();
     match Frame::arm(alloc, &versions[0].code) {
@@ -159,6 +164,8 @@ pub(crate) fn seat_takers<J: Naming, G: Drop>(
     ensures posts { OnOk result (heads.new.posts ≡ heads.old.posts) }
     ensures takes { OnOk result (heads.new.takes ≡ heads.old.takes) }
     ensures drawer { OnOk result (heads.new.drawer ≡ heads.old.drawer) }
+    ensures memory { All (HasTakeRooms (first_frames desk.now.codes.codes) (map reader_frames descrs.items) desk.now.job) actors.old.items
+        → OnOk result (All (HasTakeRooms (first_frames desk.now.codes.codes) (map reader_frames descrs.items) desk.now.job) actors.new.items) }
 {
     let mut n = 0;
     for descr in descrs {

@@ -1,5 +1,5 @@
 -- What guests and workers are before they run, and what they did.
-use Rattle.std.specs.Prelude.{◌≡◌, ◌⊎◌, ℕ, ◌-◌, ◌<◌, ◌≤◌, true, false, List, [], ◌∷◌, ◌++◌, map, max, length, vec_capacity, slice_get, slice_index_or, Some, None}
+use Rattle.std.specs.Prelude.{◌≡◌, ◌⊎◌, ℕ, ◌-◌, ◌<◌, ◌≤◌, true, false, List, [], ◌∷◌, ◌++◌, map, max, length, vec_capacity, slice_get, slice_index, slice_index_or, Some, None, IfSome}
 use Rattle.std.specs.List.{All}
 use Rattle.atomic_table.specs.Seated.{TableId}
 use Rattle.td_words.specs.declared.view.Access.{Access}
@@ -22,6 +22,8 @@ use Rattle.td_posts.specs.Posts.{mails_of, all_mails, mail_named, list_of, layou
 use Rattle.td_ir.specs.declared.tables.Parts.{Parts}
 use Rattle.td_vm.specs.Need.{most_need, level}
 use Rattle.td_vm.specs.Frames.{FrameView, IsArmed}
+use Rattle.td_takes.specs.declared.take.Take.{Take}
+use Rattle.td_takes.specs.declared.take.TakeRoom.{TakeRoom}
 use Rattle.td_swap.specs.Views.{publisher_view, swap_view, new_view}
 use Rattle.td_swap.specs.Seats.{PublishState, SwapState, publish_state, swap_state}
 use Rattle.td_host_actors.specs.Replies.{IsReplyTo, pieces, label, mail_label}
@@ -47,6 +49,23 @@ pub record HasMemory (frames cells : ℕ) (rooms : List ℕ) (r : Reply) : Type 
 -- the reply has the memory of a room for a post of this job, by these codes
 abbrev pub IsInRoom : List Parts → HostJob → Reply → Type 0
 IsInRoom cs job r = HasMemory (most_frames cs) job.cells job.rooms r
+
+-- how many frames a failure of the first of these codes has at most
+abbrev pub first_frames : List Parts → ℕ
+first_frames [] = 0
+first_frames (c ∷ cs) = most_need level c
+
+-- the room of a take has memory for just so many frames of a descriptor and for its three cells, and for a message for just so many
+-- frames, the job's cells and its copy buffers
+pub record IsTakeRoom (frames desc_frames : ℕ) (job : HostJob) (room : TakeRoom) : Type 0 where
+  pub descr : HasMemory desc_frames 3 [] room.descr
+  pub message : HasMemory frames job.cells job.rooms room.message
+
+-- so have the replies of a take, where it has them; for a descriptor of ring k, the first of which is ring 1, the k-th of these counts
+-- of frames
+pub record IsTakeInRoom (frames : ℕ) (desc_frames : List ℕ) (job : HostJob) (t : Take) : Type 0 where
+  pub descr : IfSome t.descr (HasMemory (slice_index desc_frames (t.ring - 1)) 3 [])
+  pub message : IfSome t.message (HasMemory frames job.cells job.rooms)
 
 -- the post is one of the job's, by its first of that name, and its room is empty and large enough, with memory for just so many frames,
 -- the job's cells and its copy buffers, which hold nothing

@@ -19,6 +19,8 @@ use Rattle.td_host_actors.specs.declared.actor.Actor.TheVariants as kind
 use Rattle.td_host_actors.specs.declared.actor.Desk.{Desk}
 use Rattle.td_host_actors.specs.declared.actor.Taker.{Taker}
 use Rattle.td_descr.specs.Ring.{ring_words}
+use Rattle.td_takes.specs.declared.take.Take.{Take}
+use Rattle.td_takes.specs.declared.take.TakeRoom.{TakeRoom}
 use Rattle.td_takes.specs.Takes.{AreRooms, RanRing, frames_of}
 use Rattle.td_host_actors.specs.Acting.{AreArmed, RoomsFor, StoresInside, RanScript, RanPublisher, RanWorker}
 
@@ -71,6 +73,19 @@ replies_of (kind.Worker w) = w.replies.items
 replies_of (kind.Guest g) = []
 replies_of (kind.Ring t) = []
 replies_of (kind.Publisher p) = []
+
+-- the rooms of takes that the actor has, and the takes that it made
+abbrev pub take_rooms_of : {G : Type 0} → Actor G → List TakeRoom
+take_rooms_of (kind.Worker w) = []
+take_rooms_of (kind.Guest g) = []
+take_rooms_of (kind.Ring t) = t.rooms.items
+take_rooms_of (kind.Publisher p) = []
+
+abbrev pub takes_of : {G : Type 0} → Actor G → List Take
+takes_of (kind.Worker w) = []
+takes_of (kind.Guest g) = []
+takes_of (kind.Ring t) = t.takes.items
+takes_of (kind.Publisher p) = []
 
 -- what an actor did, from the one state to the other: a worker answered posts, a guest ran its script, a ring's taker made its takes,
 -- the publisher published

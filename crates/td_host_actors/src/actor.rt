@@ -1,13 +1,14 @@
 //! What runs in a thread.
 
-ghost use Rattle.std.specs.Prelude.{◌≡◌, ◌+◌, ◌≤◌};
+ghost use Rattle.std.specs.Prelude.{◌≡◌};
 ghost use Rattle.std.specs.List.{All};
 ghost use Rattle.td_ring.specs.declared.post.Post.{Post};
 ghost use Rattle.td_posts.specs.Posts.{all_mails, layout_of};
 ghost use Rattle.td_stream.specs.Layouts.{AreWithin};
+ghost use Rattle.td_takes.specs.Memory.{KeepRooms};
 ghost use Rattle.td_host_actors.specs.Replies.{IsJobCode};
 ghost use Rattle.td_host_actors.specs.Acting.{PostFits, IsInRoom, most_frames};
-ghost use Rattle.td_host_actors.specs.Actors.{IsActorReady, Did, replies_of, service_at};
+ghost use Rattle.td_host_actors.specs.Actors.{IsActorReady, Did, replies_of, take_rooms_of, takes_of, service_at};
 
 use crate::guest::run_script;
 use crate::publisher::publish_all;
@@ -120,7 +121,8 @@ pub enum Actor<G> {
 
 impl<G: Gate> Actor<G> {
     /// Does all that the actor has to do: a worker answers posts, a guest runs its script, a ring's taker makes its takes, the
-    /// publisher publishes all versions. It takes no memory, and the lists of its replies have the memory of the posts' rooms.
+    /// publisher publishes all versions. It takes no memory: the lists of its replies have the memory of the posts' rooms, those of
+    /// its takes that of the takes' rooms.
     pub fn run<J: Naming, R: Wait>(&mut self, rt: &R, desk: &Desk<J>)
         requires ready { IsActorReady J.names desk.now.shared desk.now.ring (service_at desk.now) self.old }
         requires mails { desk.now.mails.items ≡ all_mails 1 desk.now.job.guests }
@@ -129,6 +131,7 @@ impl<G: Gate> Actor<G> {
         requires code { IsJobCode desk.now.codes.codes desk.now.job }
         ensures did { Did desk.now.job desk.now.mails.items self.old self.new }
         ensures memory { All (IsInRoom desk.now.codes.codes desk.now.job) (replies_of self.new) }
+        ensures take_memory { KeepRooms (take_rooms_of self.old) (takes_of self.new) }
     {
         match self {
             Actor::Worker(worker) => run_worker(rt, desk, worker),

@@ -1,4 +1,4 @@
--- Numbers of an image's code are those of the format: constants, divisors and the numbers of sets have 64 bits, rooms of buffers 32.
+-- Numbers of an image's code are those of the format: constants, divisors and the numbers of sets have 64 bits, rooms of buffers 32. Cited by other crates.
 use Rattle.std.proofs.Common.{ℕ, zero, suc, ◌^◌, ◌<◌, List, [], ◌∷◌, Some, None, subst}
 use Rattle.std.specs.Prelude.{slice_index_or}
 use Rattle.td_num.specs.Lists.{Each}

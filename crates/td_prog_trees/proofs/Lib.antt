@@ -8,4 +8,6 @@ pub mod Fetching
 pub mod Buffers
 pub mod CopyHelper
 pub mod PlainReader
+pub mod PartsNumbers
+pub mod PartsCopies
 pub mod PartsReader

@@ -1,5 +1,7 @@
 -- A ring's actor in the middle of its takes.
 use Rattle.std.proofs.Common.{◌≡◌, ℕ, ◌+◌, List, [], ◌∷◌, ◌++◌, length, drop, refl, sym, ap, ◌∙◌, subst, arith, append_assoc, length-append}
+use Rattle.std.specs.List.{All}
+use Rattle.std.proofs.lemmas.List.Elements.{All-nil, All-push}
 use Rattle.td_core.specs.declared.module.Module.{Module}
 use Rattle.td_ir.specs.declared.tables.Parts.{Parts}
 use Rattle.td_words.specs.Seats.{SeatState}
@@ -40,6 +42,7 @@ module _ (job : HostJob) (c : Parts) (room : ℕ) (ring : RingJob) (k : ℕ) whe
     pub most : reader.most ≡ reader0.most
     pub taken : reader.taken ≡ taken_by 0 takes
     pub count : length takes ≡ left
+    pub named : All (λ (t : Take). t.ring ≡ k) takes
     pub are : (m : Module) → Describes m c room ring.most → AreTakes job m room ring k 1 0 takes
     pub steps : HasDone seat0 seat (all_steps ring 0 takes)
 
@@ -53,6 +56,7 @@ module _ (job : HostJob) (c : Parts) (room : ℕ) (ring : RingJob) (k : ℕ) whe
     most = refl;
     taken = zero;
     count = refl;
+    named = All-nil (λ (t : Take). t.ring ≡ k);
     are = λ m d. tt;
     steps = done_nothing seat;
   }
@@ -70,6 +74,7 @@ module _ (job : HostJob) (c : Parts) (room : ℕ) (ring : RingJob) (k : ℕ) whe
     most = ap (λ (x : ReaderView). x.most) went ∙ r.most;
     taken = ap (λ (x : ReaderView). x.taken) went ∙ (ap (λ n. taken_after n t.next) r.taken ∙ sym (taken_push 0 takes t));
     count = length-append takes (t ∷ []) ∙ ap (λ n. n + 1) r.count;
+    named = All-push (λ (x : Take). x.ring ≡ k) takes t r.named e;
     are = λ m d.
         let here = subst (λ (x : Parts × ℕ × ℕ). (m : Module) → Describes m x.0 x.1 ring.most → IsTake job m x.1 ring x.2 t) (λ n. ((r.code ∙ same) n, (r.room_is ∙ place) n, r.taken n)) is in
         takes_push job m room ring k 1 0 takes t (r.are m d) e (let n = r.count in omega (arith, f, n)) (here m d);

@@ -1,5 +1,6 @@
 -- Takes from a ring: what each answers, and what its seat loaded (own rule).
 use Rattle.std.specs.Prelude.{◌≡◌, ℕ, ◌+◌, ◌*◌, ◌/◌, ◌<◌, ◌≤◌, ◌^◌, List, [], ◌∷◌, ◌++◌, map, length, vec_capacity, Option, Some, None, IfSome}
+use Rattle.std.specs.List.{All}
 use Rattle.td_num.specs.Lists.{AreBytes}
 use Rattle.td_core.specs.declared.module.Module.{Module}
 use Rattle.td_core.specs.declared.module.Entry.{Entry}
@@ -173,8 +174,8 @@ AreRooms job frames desc_frames most [] = Unit {0}
 AreRooms job frames desc_frames most (r ∷ rs) = IsRoom job frames desc_frames most r × AreRooms job frames desc_frames most rs
 
 -- ---- a ring's actor
--- it may look at this ring of the buffer: its seat is at the buffer, its reader has the ring's entries and greatest message, the ring and
--- whatever lies in the reader's room are in the buffer, and its frame is armed for the code that validates the messages
+-- it may look at this ring of the buffer: its seat is at the buffer, its reader has the ring's entries, not too many, and greatest message,
+-- the ring and whatever lies in the reader's room are in the buffer, and its frame is armed for the code that validates the messages
 pub record MayLook (shared : BufferState) (c : Parts) (ring : RingJob) (descr : ReaderView) (seat : SeatState) (frame : FrameView) : Type 0 where
   pub own : seat.table ≡ shared.table
   pub entries : descr.entries ≡ ring.entries
@@ -184,8 +185,9 @@ pub record MayLook (shared : BufferState) (c : Parts) (ring : RingJob) (descr : 
   pub bytes : descr.room ≤ 8 * shared.count
   pub armed : IsArmed c frame
 
--- all takes of ring k were made, by a reader that took nothing before, and the seat made their steps and no other
+-- all takes of ring k were made, each names the ring, by a reader that took nothing before, and the seat made their steps and no other
 pub record RanRing (job : HostJob) (c : Parts) (room : ℕ) (ring : RingJob) (k : ℕ) (seat seat' : SeatState) (takes : List Take) : Type 0 where
   pub as_many : length takes ≡ ring.takes
+  pub named : All (λ (t : Take). t.ring ≡ k) takes
   pub are : (m : Module) → Describes m c room ring.most → AreTakes job m room ring k 1 0 takes
   pub steps : HasDone seat seat' (all_steps ring 0 takes)

@@ -1,9 +1,9 @@
 //! The takes of one ring.
 
-ghost use Rattle.std.specs.Prelude.{◌≡◌, ℕ, ◌+◌, ◌*◌, ◌≤◌, ◌<◌, ◌^◌, [], length, vec_capacity, IfSome};
+ghost use Rattle.std.specs.Prelude.{◌≡◌, ◌+◌, ◌*◌, ◌≤◌, [], length, vec_capacity, IfSome};
 ghost use Rattle.td_core.specs.declared.module.Module.{Module};
 ghost use Rattle.td_vm.specs.Frames.{IsArmed};
-ghost use Rattle.td_descr.specs.Ring.{Answers, LiesWithin, standing};
+ghost use Rattle.td_descr.specs.Ring.{LiesWithin};
 ghost use Rattle.td_takes.specs.Codes.{IsMessageCode};
 ghost use Rattle.td_takes.specs.Takes.{Describes, MayLook, IsMessageRoom, IsRoom, AreRooms, IsTake, RanRing, HasMessage, HasNumber, IsDescRoom, IfJudged, HasDone, frames_of, message_steps, take_steps, taken_after};
 ghost use Rattle.td_takes.specs.Kept.{IsKept};

@@ -1,6 +1,6 @@
 //! The validations of a take.
 
-ghost use Rattle.std.specs.Prelude.{◌≡◌, ◌+◌, ◌*◌, ◌≤◌, ◌<◌, ◌^◌, [], ◌∷◌, length, vec_capacity};
+ghost use Rattle.std.specs.Prelude.{◌≡◌, ◌+◌, ◌*◌, ◌≤◌, [], ◌∷◌, length, vec_capacity};
 ghost use Rattle.td_vm.specs.Frames.{IsArmed};
 ghost use Rattle.td_stream.specs.Copies.{held_by};
 ghost use Rattle.td_posts.specs.Posts.{outcome_in};
@@ -54,7 +54,7 @@ pub fn keep(frame: &Frame, trace: &mut Vec<TraceFrame>, cells: &mut [u64])
 
 /// The reply of a validation that left its trace and cells in a frame, in room that was taken for it and has the loads and the copies
 /// already; of no guest, and with version 0.
-pub fn reply_of(
+pub(crate) fn reply_of(
     frame: &Frame,
     number: u32,
     layout: Option<Layout>,
@@ -98,7 +98,7 @@ pub fn reply_of(
 }
 
 /// Validates the message of this place and size by version 0's entry point, from the ring's seat.
-pub fn validate_message(
+pub(crate) fn validate_message(
     validator: &Validator<'_>,
     seat: &mut ReadSeat,
     frame: &mut Frame,
@@ -146,7 +146,7 @@ pub fn validate_message(
 }
 
 /// Looks at the ring once, from its seat.
-pub fn look_ring(
+pub(crate) fn look_ring(
     shared: &Shared,
     seat: &mut ReadSeat,
     ring: &RingJob,

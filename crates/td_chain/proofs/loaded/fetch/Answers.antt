@@ -1,4 +1,4 @@
-use Rattle.std.proofs.Common.{◌≡◌, ◌+◌, List, [], ◌∷◌, ◌++◌, ap, sym, refl, subst, ◌∙◌, arith}
+use Rattle.std.proofs.Common.{◌≡◌, ◌+◌, [], ◌∷◌, ◌++◌, ap, sym, refl, subst, ◌∙◌, arith}
 use Rattle.td_stream.specs.declared.load.Load.{Load}
 use Rattle.td_chain.specs.Loaded.{Holds, IsFresh, Grown}
 use Rattle.td_chain.proofs.Finding.{value_holds, none_fresh}

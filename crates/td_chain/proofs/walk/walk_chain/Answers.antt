@@ -1,5 +1,4 @@
-use Rattle.std.proofs.Common.{◌≡◌, ℕ, ◌+◌, ◌*◌, ◌≤◌, List, [], ◌∷◌, ◌++◌, length, length-append, Ok, Err, refl, sym, ap, subst, ◌∙◌, arith}
-use Rattle.td_stream.specs.declared.load.Load.{Load}
+use Rattle.std.proofs.Common.{◌≡◌, ◌+◌, ◌*◌, List, [], ◌∷◌, length, length-append, Ok, Err, refl, sym, ap, subst, ◌∙◌, arith}
 use Rattle.td_chain.specs.declared.piece.Piece.{Piece}
 use Rattle.td_chain.specs.declared.refusal.Refusal.{Refusal}
 use Rattle.td_chain.specs.declared.step.Walk.{Walk}

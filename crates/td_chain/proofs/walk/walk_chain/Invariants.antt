@@ -1,4 +1,4 @@
-use Rattle.std.proofs.Common.{◌≡◌, ◌+◌, ◌*◌, ◌≤◌, length, vec_capacity}
+use Rattle.std.proofs.Common.{◌≡◌, ◌*◌, ◌≤◌, length, vec_capacity}
 use Rattle.td_chain.specs.Loaded.{Looked}
 use Rattle.td_chain.specs.Places.{IsAt, IsOpen}
 use Rattle.td_chain.proofs.Walking.{Walked}

@@ -1,4 +1,4 @@
-use Rattle.std.proofs.Common.{◌≡◌, ◌++◌, [], ◌∷◌, ap, ◌∙◌, arith}
+use Rattle.std.proofs.Common.{◌++◌, [], ◌∷◌, ap, ◌∙◌, arith}
 use Rattle.td_foreign.specs.declared.memory.TdWords.{TdWords}
 use Rattle.td_foreign.proofs.PieceLoads.{count_of, is_load}
 use Rattle.td_foreign.proofs.pieces.load_of.Goals as goal

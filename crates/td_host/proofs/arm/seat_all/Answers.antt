@@ -1,6 +1,9 @@
-use Rattle.std.proofs.Common.{ℕ, List, length, sym, ap, ◌∙◌, arith, length-append}
+use Rattle.std.proofs.Common.{ℕ, List, length, map, sym, ap, ◌∙◌, arith, length-append}
 use Rattle.td_words.specs.Seats.{HostState}
-use Rattle.td_host.specs.Gathered.{host_at}
+use Rattle.td_host_actors.specs.declared.actor.Actor.TheVariants as kind
+use Rattle.td_host_actors.specs.Acting.{first_frames}
+use Rattle.td_host.specs.Gathered.{host_at, reader_frames}
+use Rattle.td_host.proofs.TakeMemory.{before_have, pushed}
 use Rattle.td_host.proofs.Arms.{arms, makes_all}
 use Rattle.td_host.proofs.Bounds.{bounded}
 use Rattle.td_host.proofs.Takings.{all_described}
@@ -64,3 +67,11 @@ returns-clause-swap g c =
 pub returns-clause-described : goal.returns-clause-described
 returns-clause-described g c m by =
     all_described m _ _ _ _ _ _ _ _ _ _ _ _ _ _ _ _ _ _ _ c.in_ok-seat_workers.ensures.seated c.in_ok-seat_guests.ensures.seated c.in_ok-seat_takers.ensures.seated by c.in_ok-push.ensures.items
+
+pub returns-clause-take_memory : goal.returns-clause-take_memory
+returns-clause-take_memory g c =
+    let a = c.args in
+    let frames = first_frames a.desk.now.codes.codes in
+    let ns = map reader_frames a.descrs.items in
+    let before = before_have frames ns a.desk.now.job _ _ _ _ _ _ _ _ _ _ _ _ _ c.in_ok-seat_workers.ensures.seated c.in_ok-seat_guests.ensures.seated in
+    pushed frames ns a.desk.now.job c.seat_takers.new.actors.items c.push.new.self.items (kind.Publisher a.publisher) c.in_ok-push.ensures.items (c.in_ok-seat_takers.ensures.memory before) tt

@@ -1,10 +1,14 @@
-use Rattle.std.proofs.Common.{rules, ◌≡◌, ◌*◌, ◌<◌, List, length, refl, sym, ap, ◌∙◌, subst, arith}
+use Rattle.std.proofs.Common.{rules, ◌≡◌, ◌*◌, ◌<◌, List, length, map, refl, sym, ap, ◌∙◌, subst, arith}
 use Rattle.std.specs.Prelude.{slice_index_or}
 use Rattle.td_posts.specs.declared.ring.RingJob.{RingJob}
 use Rattle.td_posts.specs.Servable.{IsRingWithin}
 use Rattle.td_descr.specs.Ring.{ReaderView}
+use Rattle.std.specs.List.{All}
+use Rattle.td_host_actors.specs.declared.actor.Actor.TheVariants as kind
+use Rattle.td_host_actors.specs.Acting.{IsTakeRoom, first_frames}
 use Rattle.td_host_actors.specs.Actors.{service_at}
-use Rattle.td_host.specs.Gathered.{IsReaderOf}
+use Rattle.td_host.specs.Gathered.{IsReaderOf, reader_frames}
+use Rattle.td_host.proofs.TakeMemory.{frames_at, pushed}
 use Rattle.td_host.proofs.Arms.{no_taker, one_taker, all_takers}
 use Rattle.td_host.proofs.Takers.{dropped, none_left, as_many_readers, reader_at}
 use Rattle.td_host.proofs.rings.seat_takers.Goals as goal
@@ -28,6 +32,7 @@ loop-descr-init g c =
       posts = refl;
       takes = refl;
       drawer = refl;
+      memory = λ rooms. rooms;
     }
 
 pub bounds-as_slice-n : goal.bounds-as_slice-n
@@ -89,6 +94,11 @@ loop-descr-preserved g c =
       posts = i.posts;
       takes = i.takes;
       drawer = i.drawer;
+      memory = λ rooms.
+          let frames = first_frames a.desk.now.codes.codes in
+          let ns = map reader_frames a.descrs.items in
+          let here = subst (λ k. All (IsTakeRoom frames k a.desk.now.job) c.in_ok-taker.taker.rooms.items) (sym (frames_at a.descrs.items l.n c.in_ok-taker.taker.number c.in-Some.descr less at.is t.number)) t.memory in
+          pushed frames ns a.desk.now.job l.actors.items c.push.new.self.items (kind.Ring c.in_ok-taker.taker) c.in_ok-push.ensures.items (i.memory rooms) here;
     }
 
 pub returns-clause-seated : goal.returns-clause-seated
@@ -99,3 +109,6 @@ returns-clause-seated g c =
     let left = none_left a.descrs.items l.n l.descr-iterator.rest.items l.invariant.rest none in
     let many = as_many_readers (8 * length a.desk.now.job.words) a.desk.now.job.rings a.descrs.items c.requires.readers in
     all_takers a.desk.now.shared (service_at a.desk.now) a.desk.now.job a.descrs.items a.actors.now.items l.n l.heads.seat l.actors.items l.invariant.ringing (omega (arith, left, many)) left
+
+pub returns-clause-memory : goal.returns-clause-memory
+returns-clause-memory g c = c.loop-descr.invariant.memory

@@ -34,7 +34,7 @@ zero_fits = omega (arith)
 
 -- what an empty handle is said to hold, of which nothing is known
 abbrev empty : Slot
-empty = record { session = None; answer = Err Unfit; made = []; waiting = None; publisher = None; reader = None }
+empty = record { session = None; answer = Err Unfit; made = []; waiting = None; publisher = None; reader = None; room = tt }
 
 pub none_spec : {M : Type 1} → statement M
 none_spec 𝓤 𝓛 𝓜 𝓡 wired =

@@ -1,0 +1,5 @@
+mod Ending
+mod Tests
+mod Numbers
+mod Spelled
+mod Meant
