@@ -39,7 +39,7 @@ class Fields(runs.Run):
     def type_name(self, element):
         if element.kind == "named":
             return self.types[element.number].name
-        return element.base if element.kind in ("number", "enum") else element.kind
+        return element.base if element.kind in ("number", "enum", "given") else element.kind
 
     def field(self, field, later, level, values, cells, places, start, end):
         element, form = field.element, field.extent[0]
@@ -77,6 +77,8 @@ def note(row, told):
     if row.field is None:
         return ""
     element, form, start = row.field.element, row.field.extent[0], row.start
+    if element.kind == "given":
+        return "= %s" % shown(row.values[0]) if row.values else ""
     is_number = form == "once" and element.kind in ("number", "enum")
     after = row.end
     if after is None:
@@ -88,13 +90,16 @@ def note(row, told):
         is_read = bool(row.values) and row.values[0] is not None
         raw = int.from_bytes(told.bytes[start:after], "big" if element.base.endswith("BE") else "little")
         return "= %s  %s" % (" ".join(number_of(part, raw) for part in row.field.parts), told.state(is_read, start, after))
-    shown = told.bytes[start : min(after, start + MOST_BYTES)].hex(" ") + (" .." if after - start > MOST_BYTES else "")
+    digits = told.bytes[start : min(after, start + MOST_BYTES)].hex(" ") + (" .." if after - start > MOST_BYTES else "")
     is_read = form == "zeroterm" or element.kind in ("enum", "all_zeros") or row.field.copy is not None
-    return "= %s  %s" % (shown, told.state(is_read, start, after))
+    return "= %s  %s" % (digits, told.state(is_read, start, after))
 
 
 def number_of(part, raw):
-    value = raw if part.width is None else raw >> part.low & 2**part.width - 1
+    return shown(raw if part.width is None else raw >> part.low & 2**part.width - 1)
+
+
+def shown(value):
     return str(value) if value < 10 else "%d (0x%x)" % (value, value)
 
 
@@ -115,23 +120,23 @@ def rows_of(known, job):
     """The rows of a run with their notes, its report, and the job of the value that spells the message, or why there is none."""
     number, arguments, cells, layout, words, stores, written = job
     memory = runs.Memory(layout, words, stores)
-    shown = Fields(known.types, memory)
+    run = Fields(known.types, memory)
     frames, accepted, after = [], None, runs.opened(known.types[number], cells)
     try:
-        accepted = shown.definition(number, arguments, after, list(range(len(after))), 0, layout.length)
+        accepted = run.definition(number, arguments, after, list(range(len(after))), 0, layout.length)
         verdict = "accept %d" % accepted
     except runs.Rejected as failed:
         verdict = "reject %s %d" % (failed.reason, failed.position)
         frames = ["frame %s.%s %d" % frame for frame in failed.frames]
     lines = "".join(line + "\n" for line in [verdict, *frames]) + runs.told(known.types[number], after)
     told = Told(layout, words, memory.loaded)
-    for row in shown.rows:
+    for row in run.rows:
         row.note = note(row, told)
-    unended = [row for row in shown.rows if row.end is None]
+    unended = [row for row in run.rows if row.end is None]
     if unended:
         unended[-1].note = ("%s  <-- it failed here" % unended[-1].note).strip()
     value = value_job(known, (number, arguments, cells), accepted, told)
-    return shown.rows, answers.written_line(written) + lines + memory.lines(), value
+    return run.rows, answers.written_line(written) + lines + memory.lines(), value
 
 
 def left_of(row):

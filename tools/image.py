@@ -1,6 +1,6 @@
 """Images of code, read strictly, as tables (docs/language/images.md)."""
 
-from instructions import FIELDS, FIELDS_OF, NAMES
+from instructions import FIELDS, FIELDS_OF, NAMES, NUMBERS
 from limits import (
     FIRST_IMAGE_INSTRUCTIONS,
     FIRST_IMAGE_ROWS,
@@ -28,21 +28,22 @@ KEYWORDS = frozenset(
 
 class Version:
     """What distinguishes a version of the format: the most rows of a table and numbers of all sets together, the most
-    instructions, whether a site names its routine and a name may be two, joined by a dot, and whether there are copy buffers: then
-    a cell map has numbers for them too, and `Copy` is a kind of instruction."""
+    instructions, whether a site names its routine and a name may be two, joined by a dot, whether there are copy buffers (then a
+    cell map has numbers for them too), and the last kind of instruction."""
 
-    def __init__(self, most_rows, most_instructions, is_parted, has_buffers):
+    def __init__(self, most_rows, most_instructions, is_parted, has_buffers, last_kind):
         self.most_rows, self.most_instructions = most_rows, most_instructions
         self.has_owners = self.has_dots = is_parted
         self.has_buffers = has_buffers
         self.most_mapped = IMAGE_MAPPED if has_buffers else IMAGE_CELLS
-        self.kinds = [kind for kind in NAMES if has_buffers or kind != "Copy"]
+        self.kinds = NAMES[: NUMBERS[last_kind] + 1]
 
 
 VERSIONS = {
-    1: Version(FIRST_IMAGE_ROWS, FIRST_IMAGE_INSTRUCTIONS, False, False),
-    2: Version(IMAGE_ROWS, IMAGE_INSTRUCTIONS, True, False),
-    3: Version(IMAGE_ROWS, IMAGE_INSTRUCTIONS, True, True),
+    1: Version(FIRST_IMAGE_ROWS, FIRST_IMAGE_INSTRUCTIONS, False, False, "Mark"),
+    2: Version(IMAGE_ROWS, IMAGE_INSTRUCTIONS, True, False, "Mark"),
+    3: Version(IMAGE_ROWS, IMAGE_INSTRUCTIONS, True, True, "Copy"),
+    4: Version(IMAGE_ROWS, IMAGE_INSTRUCTIONS, True, True, "Left"),
 }
 
 

@@ -34,6 +34,11 @@ class Lint:
     def __init__(self, types):
         self.types, self.early, self.known = types, {}, {}
 
+    def read(self, cell, sure, name):
+        """A cell is read there."""
+        if cell not in sure:
+            self.early.setdefault(cell, name)
+
     def block(self, statements, places, sure, name):
         """What is sure where the statements end, and where they return that the message goes on."""
         returned = []
@@ -44,8 +49,7 @@ class Lint:
             if kind == "set":
                 sure = sure | {places[statement[1]]}
             elif kind == "var":
-                if places[statement[1]] not in sure:
-                    self.early.setdefault(places[statement[1]], name)
+                self.read(places[statement[1]], sure, name)
             elif kind == "abort":
                 sure = None
             elif kind == "return":
@@ -66,6 +70,8 @@ class Lint:
                 form, size = field.extent[:2]
                 is_met = form in ONCE or size is not None and size.kind == "number" and size.value > 0
                 sure = after if is_met else sure
+            if field.element.kind == "given" and field.element.source == "cell" and sure is not None:
+                self.read(places[field.element.cell], sure, "%s.%s" % (made.name, field.parts[0].name))
             for part in field.parts:
                 if part.action is not None and sure is not None:
                     sure = joined(self.block(part.action, places, sure, "%s.%s" % (made.name, part.name)))

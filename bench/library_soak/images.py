@@ -14,8 +14,9 @@ MOST_SHOWN = 8
 
 
 def image(rng):
-    version = rng.choice([3, 3, 3, 2, 1])
-    return image_of(CodeMaker(rng.getrandbits(40)).made(rng.choice([0, 0, 1, 2]), copies=version == 3), version)
+    version = rng.choice([4, 4, 3, 3, 2, 1])
+    made = CodeMaker(rng.getrandbits(40)).made(rng.choice([0, 0, 1, 2]), copies=version >= 3, newer=version == 4)
+    return image_of(made, version)
 
 
 def changed(rng, image):

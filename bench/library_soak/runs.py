@@ -202,7 +202,8 @@ class Soak:
 
     def soak(self, codes):
         while self.count["codes"] < codes:
-            code = CodeMaker(self.rng.randrange(2**40)).made(self.rng.choice([0, 0, 0, 1]), copies=self.rng.random() < 0.7)
+            made = CodeMaker(self.rng.randrange(2**40))
+            code = made.made(self.rng.choice([0, 0, 0, 1]), copies=self.rng.random() < 0.7, newer=self.rng.random() < 0.5)
             image = image_of(code)
             if not self.ask(u32(0, len(image)) + image).startswith("open 0"):
                 continue

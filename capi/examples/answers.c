@@ -186,9 +186,9 @@ static void images(uint8_t *bytes, size_t size) {
   bytes[0] ^= 1;
   row("no image", TD_I1, td_open(&s, bytes, size, &fault));
   bytes[0] ^= 1;
-  bytes[4] ^= 7;
+  bytes[4] ^= 8;
   row("another version", TD_I2, td_open(&s, bytes, size, &fault));
-  bytes[4] ^= 7;
+  bytes[4] ^= 8;
   row("null bytes", TD_POINTER, td_open(&s, 0, size, &fault));
   row("an image", TD_DONE, td_open(&s, bytes, size, &fault));
   row("the image again, into the same handle", TD_DONE, td_open(&s, bytes, size, &fault));

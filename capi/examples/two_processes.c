@@ -113,9 +113,8 @@ static void take_rndis(td_session *s, memory *m, uint32_t entry, tally *t) {
 static void take_net(td_session *s, memory *m, uint32_t entry, tally *t) {
   static td_call call;
   call.entry = entry;
-  call.arg_count = 2;
-  call.args[0] = NET_BYTES;
-  call.args[1] = CHECKSUM_AND_SEGMENTS;
+  call.arg_count = 1;
+  call.args[0] = CHECKSUM_AND_SEGMENTS;
   int32_t code = validate(s, m, &call, NET_PLACE, NET_BYTES, 7);
   const uint64_t *c = call.cells;
   count(t, code, (c[0] && c[1] + c[2] + 2 > NET_BYTES - 12) || c[6] != 12);

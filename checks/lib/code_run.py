@@ -4,7 +4,7 @@ An instruction is a tuple of its name and its operands, in the order of the page
 numbers (crates/td_try_code/src/numbers.rt).
 """
 
-from codes import NO_FIELD, Tables, image_of, upgraded
+from codes import NO_FIELD, Tables, has_newer, image_of, upgraded
 from instructions import places_of
 from program import answers
 
@@ -21,8 +21,8 @@ class Routine:
 
 class Code:
     """Routines whose targets are places in their own routine, sets, cell maps, and entry points by routine. Sites begin with a
-    type and a field; each routine may name each of them, as in images of version 1: where there are buffers, the image has the
-    sites of the upgraded code."""
+    type and a field; each routine may name each of them, as in images of version 1: where there are buffers or a `Left`, the image
+    has the sites of the upgraded code."""
 
     def __init__(self, routines, sets=(), maps=(), entries=(0,), names=("t", "f"), sites=((0, 1),)):
         self.routines, self.sets, self.maps, self.names, self.sites = routines, sets, maps, names, sites
@@ -35,8 +35,8 @@ class Code:
             at += len(routine.instructions)
 
     def image(self):
-        """Its image: in version 1, which is upgraded when it is read, and upgraded before where it has buffers. Each routine has the
-        first name; parameters, cells and buffers of entry points have it too, and 64 bits."""
+        """Its image: in version 1, which is upgraded when it is read, and upgraded before where version 1 can't have it. Each routine
+        has the first name; parameters, cells and buffers of entry points have it too, and 64 bits."""
         tables = Tables()
         tables.names = [name.encode() for name in self.names]
         tables.sites, tables.maps, tables.sets = self.sites, self.maps, self.sets
@@ -46,7 +46,8 @@ class Code:
         for number in self.entries:
             routine = self.routines[number]
             tables.entries.append((number, [(0, 64)] * routine.params, [(0, NO_FIELD, 64)] * routine.cells, *([0] * len(routine.rooms))))
-        return image_of(upgraded(tables)) if any(routine.rooms for routine in self.routines) else image_of(tables, version=1)
+        is_newer = has_newer(tables) or any(routine.rooms for routine in self.routines)
+        return image_of(upgraded(tables)) if is_newer else image_of(tables, version=1)
 
 
 TARGETS = places_of("target")
@@ -154,6 +155,10 @@ class Run:
 
     def Pos(self, s, at, into):
         s.regs[into] = s.start
+        return at + 1
+
+    def Left(self, s, at, into):
+        s.regs[into] = s.end - s.pos
         return at + 1
 
     def Jump(self, s, at, target):

@@ -42,9 +42,15 @@ def instruction_bytes(instruction):
     return bytes([NUMBERS[kind]]) + tail
 
 
-def image_of(code, version=3):
-    """The image of tables, which need not be within the format's limits. In version 1 the routines of sites are left out; before
-    version 3 there are no buffers."""
+def has_newer(code):
+    """Whether an instruction is of a kind that version 3 hasn't."""
+    return any(instruction[0] not in IMAGES.VERSIONS[3].kinds for instruction in code.instructions)
+
+
+def image_of(code, version=None):
+    """The image of tables, which need not be within the format's limits; where no version is given, in that in which their code is
+    written. In version 1 the routines of sites are left out; before version 3 there are no buffers."""
+    version = version or (4 if has_newer(code) else 3)
     tables = (code.names, code.sites, code.maps, code.sets, code.routines, code.entries, code.instructions)
     image = [b"TD3I" + version.to_bytes(2, "little") + bytes(2), u32(*map(len, tables))]
     image += [u32(len(name)) + name for name in code.names]
@@ -52,20 +58,22 @@ def image_of(code, version=3):
     image += [u32(len(cells), *cells) for cells in code.maps]
     image += [u32(len(numbers)) + b"".join(number.to_bytes(8, "little") for number in numbers) for numbers in code.sets]
     for routine in code.routines:
-        image += [u32(*routine[:5])] + ([u32(len(routine[5:]), *routine[5:])] if version == 3 else [])
+        image += [u32(*routine[:5])] + ([u32(len(routine[5:]), *routine[5:])] if version >= 3 else [])
     for routine, params, cells, *buffers in code.entries:
         image += [u32(routine)] + [u32(*param) for param in params] + [u32(*cell) for cell in cells] + [u32(*buffers)]
     return b"".join(image + [instruction_bytes(instruction) for instruction in code.instructions])
 
 
 def large_image(names, instructions, version=3):
-    """The image of code with so many names and sites, and so many instructions (a number that four divides) in one routine."""
+    """The image of code with so many names and sites, and so many instructions (a number that four divides) in one routine; a
+    fourth of them are of the newest kind in version 4."""
     code = Tables()
     code.names = [b"name%05d" % k for k in range(names)]
     code.sites = [(k, (7 * k) % names, 0) for k in range(names)]
     code.routines = [[0, 0, 0, 9, instructions]]
     code.entries = [(0, [], [])]
-    steps = [("Fetch", 1, 1, 4, 5), ("Const", 2, 77), ("Op", 3, 12, 1, 2), ("SkipK", 4, names - 1)]
+    second = ("Left", 2) if version == 4 else ("Const", 2, 77)
+    steps = [("Fetch", 1, 1, 4, 5), second, ("Op", 3, 12, 1, 2), ("SkipK", 4, names - 1)]
     code.instructions = steps * (instructions // 4 - 1) + steps[:3] + [("Return",)]
     return image_of(code, version)
 
@@ -167,6 +175,7 @@ class CodeMaker:
         """An instruction that goes on."""
         kind = self.pick(
             "Const Member Op Bits Pos Fetch Fetch SkipK Skip Rest Zeros Zeroterm Divides Get Set Mark Copy Call Call".split()
+            + ["Left"] * self.newer
         )
         if kind in ("Get", "Set") and not self.cells or kind == "Member" and not self.code.sets or kind == "Copy" and not self.rooms:
             kind = "Pos"
@@ -178,6 +187,7 @@ class CodeMaker:
             "Op": lambda: (self.reg(), self.near(14), self.reg(), self.reg()),
             "Bits": self.bits,
             "Pos": lambda: (self.reg(),),
+            "Left": lambda: (self.reg(),),
             "Fetch": lambda: (self.reg(), self.near(2), self.width(), self.site()),
             "SkipK": lambda: (self.pick([0, 1, 4, 2**32 - 1, 2**32 - (0 if self.chance(0.05) else 1)]), self.site()),
             "Skip": lambda: (self.reg(), self.site()),
@@ -291,9 +301,10 @@ class CodeMaker:
             ]
         )  # fmt: skip
 
-    def made(self, faults, copies=False):
-        """Code with so many instructions spoiled; with copy buffers too, where they are asked for."""
-        self.code, self.copies = Tables(), copies
+    def made(self, faults, copies=False, newer=False):
+        """Code with so many instructions spoiled; with copy buffers and with instructions of version 4 too, where they are asked
+        for."""
+        self.code, self.copies, self.newer = Tables(), copies, newer
         self.code.names = [b"A", b"f"]
         self.code.sites = []
         self.code.sets = [[1, 5], []][: self.random.randrange(3)]

@@ -20,10 +20,12 @@ OTHER_VALUES: list[Any] = [None, 1, [], [1], {}, "a", 1.5, -1, 2**64, True, [[0,
 class Maker(RingMaker):
     def __init__(self, seed):
         self.random = random.Random(seed)
-        # Values are drawn apart, so that modules stay as they are without them; so is whether a text has parts, and what it copies.
+        # Values are drawn apart, so that modules stay as they are without them; so is whether a text has parts, what it copies, and which
+        # fields have no bytes.
         self.drawn = random.Random("values of %d" % seed)
         self.parted = random.Random("parts of %d" % seed)
         self.copied = random.Random("copies of %d" % seed)
+        self.given = random.Random("fields without bytes of %d" % seed)
 
     def chance(self, share):
         return self.random.random() < share
@@ -163,11 +165,28 @@ class Maker(RingMaker):
             head, readable = ["unit"], False
         if roll >= 0.15:
             self.unit = None
+        if head[0] in NUMBER_TYPES and not tail and self.given.random() < 0.08:
+            head, tail = self.source(head)
         if readable:
             self.values.append(name)
         refinement = ["{", *self.test(), "}"] if self.chance(0.4) and (readable or self.chance(0.01)) else []
         action = self.action() if self.chance(0.2) else []
         return head + [name] + tail + refinement + self.with_copy(head, tail, action) + [";"]
+
+    def source(self, head):
+        """A field without bytes: its type, and what gives it its value, mostly one that fits."""
+        numbers = [cell for cell, fields in self.cells if not fields]
+        roll = self.given.random()
+        if roll < 0.35:
+            wide = [kind for kind in NUMBER_TYPES if kind.startswith(("UINT32", "UINT64"))]
+            left = ["(", "bytes_left", ")"] if roll < 0.02 else ["bytes_left"]
+            return [self.given.choice(wide) if roll > 0.03 else head[0]], ["=", *left]
+        if roll < 0.5 and numbers:
+            return [self.given.choice(NUMBER_TYPES)], ["=", "*", self.given.choice(numbers)]
+        if roll < 0.52 or not self.values:
+            return head, ["=", self.given.choice([*"01234", "255", "256", "zz", "true"])]
+        mask = self.given.choice([[], [], ["&", "15"], ["%", "8"], ["+", "1"], [">>", "1"]])
+        return [self.given.choice(NUMBER_TYPES)], ["=", self.given.choice(self.values), *mask]
 
     def with_copy(self, head, tail, action):
         """What a field does, or a copy in its place: mostly of bytes, and mostly into a copy buffer."""

@@ -30,6 +30,7 @@ KINDS = (
     ("Set", "source cell"),
     ("Mark", ""),
     ("Copy", "size buffer site"),
+    ("Left", "into"),
 )
 # The fields of an instruction in an image, in their order, with the bytes of each; and the operands that stand in each.
 FIELDS = (("x", 1), ("a", 2), ("b", 2), ("c", 2), ("t", 4), ("site", 4), ("k", 8))

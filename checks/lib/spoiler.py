@@ -1,17 +1,17 @@
 """Images that are changed at random, and what a second reading says of an image."""
 
-from codes import IMAGES, u32, upgraded
+from codes import IMAGES, has_newer, u32, upgraded
 from reference import code as rules
 
 
 def second_reading(image):
-    """What the second reading says of an image, and its tables where it accepts it. One of an older version, the code of version 1
-    upgraded, is another image when it is written again."""
+    """What the second reading says of an image, and its tables where it accepts it. One of another version than that in which its
+    code is written, the code of version 1 upgraded, is another image when it is written again."""
     try:
         code = IMAGES.Code(image)
     except IMAGES.Fault as fault:
         return fault.code if fault.code in ("I1", "I2") else "%s at %d" % (fault.code, fault.at), None
-    answer = "ok" if code.version == 3 else "older"
+    answer = "ok" if code.version == (4 if has_newer(code) else 3) else "older"
     code = upgraded(code) if code.version == 1 else code
     refusal = rules.refusal(code)
     return ("I6 " + refusal, None) if refusal else (answer, code)

@@ -67,12 +67,30 @@ class Walk:
             value, size = self.array(field, values)
             values.append(None)
             return [value], size
+        if field.element.kind == "given":
+            return [self.given(field, values, room)], 0
         if field.element.kind not in ("number", "enum"):
             value, size = self.element(field.element, values, room)
             values.append(None)
             return [value], size
         found = [self.part(field.element, part, values) for part in field.parts]
         return found, bits_of(field.element.base) // 8
+
+    def given(self, field, values, room):
+        """What stands for a field without bytes. How many bytes are left is known in an array alone; a cell is taken to hold 0."""
+        element, refinement = field.element, field.parts[0].refinement
+        if element.source == "bytes_left":
+            return self.part(element, field.parts[0], values) if room is None else self.left(refinement, values, room)
+        values.append(value_of(element.core, values) if element.source == "expression" else 0)
+        if refinement is not None and not value_of(refinement, values):
+            raise NoValue
+        return None
+
+    def left(self, refinement, values, room):
+        values.append(room)
+        if refinement is not None and not value_of(refinement, values):
+            raise NoValue
+        return room
 
     def part(self, element, part, values):
         """A number that the part's refinement takes; it is the next value in scope."""

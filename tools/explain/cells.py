@@ -4,7 +4,7 @@ from reference.sizes import tree_fields
 
 from .spelling import free_name
 
-ELSEWHERE = "no size, argument, switch or `where` reads one; name a field before it, or a value parameter"
+ELSEWHERE = "no size, argument, switch or `where` reads one; put a field `UINT32 n = *p;` before it and name that, or a value parameter"
 
 
 def statement_at(statements, at):

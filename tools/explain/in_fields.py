@@ -46,7 +46,7 @@ def several_names(here):
 
 
 def value_behind(here):
-    """`UINT8 a == 1;`, `UINT8 a = 1;`, `UINT8 f : 3 == 0;`."""
+    """`UINT8 a == 1;`, `UINT8 f : 3 == 0;`, `UINT8 f : 3 = 0;`."""
     if not in_field(here) or here.kind not in ("==", "=", "!=", "<", "<=", ">", ">="):
         return None
     is_bits = here.kind_at(-1) == "NUM" and here.kind_at(-2) == ":"

@@ -5,6 +5,7 @@ import difflib
 from reference.sizes import tree_fields
 from reference.tokens import NUMBER_TYPES
 
+from . import given
 from .spelling import free_name, many, names_in, parameter_text, quoted, spelled, word_at
 
 TYPES_OF_OTHERS = {
@@ -162,6 +163,8 @@ def unknown_name(module):
     lines = name_of_another_part(module, word)
     if lines:
         return lines
+    if word == given.LEFT:
+        return given.left_elsewhere(module)
     if word in TRUTH:
         return ["There is no type for truth values: they stand in conditions alone.",
                 "mend: take a `UINT8`, test it by `!= 0`, and give `(.. ? 1 : 0)` as its argument."]  # fmt: skip

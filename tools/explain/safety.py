@@ -5,6 +5,7 @@ from reference.expressions import COMPARED
 from reference.sizes import tree_fields
 from reference.values import constant_of
 
+from . import given
 from .spelling import LEVEL_OF, core_text, names_in, spelled
 from .sorts import statements_of
 
@@ -55,7 +56,8 @@ def outcome(core, facts):
 
 
 def known_here(facts, text):
-    shown = ["`%s %s %s`" % (core_text(fact.left, text, LEVEL_OF["|"]), fact.relation, core_text(fact.right, text, LEVEL_OF["|"])) for fact in facts]
+    told = [fact for fact in facts if not (fact.relation == ">=" and constant_of(fact.right) == 0)]
+    shown = ["`%s %s %s`" % (core_text(fact.left, text, LEVEL_OF["|"]), fact.relation, core_text(fact.right, text, LEVEL_OF["|"])) for fact in told]
     if not shown:
         return "Nothing is known here."
     more = ", and %d more" % (len(shown) - MOST_FACTS) if len(shown) > MOST_FACTS else ""
@@ -80,8 +82,8 @@ def wholes_of(own):
         yield Whole(own.switch, "number", None, own)
     for fields in tree_fields(own):
         for field in fields:
-            for tree in field.arguments + [field.size]:
-                if tree is not None:
+            for tree in field.arguments + [field.size, field.source]:
+                if tree is not None and tree.kind != "cell":
                     yield Whole(tree, "number", field, own)
             if field.refinement is not None:
                 yield Whole(field.refinement, "truth", field, own)
@@ -191,10 +193,11 @@ def refined_before(module, whole, tree, condition):
             end = module.span(field.refinement)[1]
             new = " && %s" % condition
         else:
-            end = module.end_of(module.index_at(field.width[2] if field.width else field.name[2]))
+            end = end_of_value(module, field) if field.source else module.end_of(module.index_at(field.width[2] if field.width else field.name[2]))
             new = " { %s }" % condition
         said = "test it where `%s` stands, at %s: `%s`. Messages for which that fails are then rejected."
         width = " : " + module.spelling(module.index_at(field.width[2])) if field.width else ""
+        width = " = " + given.source_text(module, field) if field.source else width
         test = " { .. && %s }" % condition if field.refinement is not None else new
         text = " ".join(("%s %s%s%s" % (field.type[1], field.name[1], width, test)).split())
         yield said % (field.name[1], module.place(field.name[2]), text), [(end, end, new)]
@@ -264,7 +267,16 @@ def guarded(module, whole, condition):
     yield "store it where it fits alone: `%s`." % new, [(begin, end, new)]
 
 
+def end_of_value(module, field):
+    """The byte behind what gives a field without bytes its value."""
+    if field.source.kind == "cell":
+        return module.end_of(module.index_at(field.source.cell[2]))
+    return module.span(field.source)[1]
+
+
 def help_of(module):
+    if module.error.words == "unsafe =":
+        return given.value_may_not_fit(module)
     core, facts = unsafe_at(module.watch.known.types, module.error.at)
     text = module.text
     lines = ["`%s` is worked out in %d bits, 0 to %d." % (core_text(core, text), core.type, 2**core.type - 1)]

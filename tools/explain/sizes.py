@@ -45,7 +45,7 @@ def one_empty(types, field):
         return "`%s` is an array whose size may be 0" % name
     if field.element.kind == "named":
         return "`%s` is of the type `%s`" % (name, types[field.element.number].name)
-    return "`%s` is `%s`" % (name, field.element.kind)
+    return "`%s` takes none" % name if field.element.kind == "given" else "`%s` is `%s`" % (name, field.element.kind)
 
 
 def may_be_empty(module):

@@ -7,6 +7,7 @@ from reference.tokens import NUMBER_TYPES
 
 from . import constants
 from . import cells
+from . import given
 from .spelling import BITWISE, LEVEL_OF, UNARY, parameter_text, spelled, word_at
 
 TIGHTER_THAN_COMPARISON = LEVEL_OF["=="] + 1
@@ -232,7 +233,7 @@ def stored_wrong(module, own):
 def mismatch(module):
     watch, at = module.watch, module.error.at
     own, _, _ = module.definition_at(at)
-    stored = stored_wrong(module, own)
+    stored = stored_wrong(module, own) or given.mismatch(module, own)
     if stored:
         return stored
     for tree, sort, scope in watch.walked:
@@ -278,6 +279,9 @@ def does_not_fit(module):
     for statement in statements_of(own):
         if statement.kind in ("*", "->") and statement.right.first == at:
             return stored_too_wide(module, own, statement)
+    narrow = given.too_narrow(module, own)
+    if narrow:
+        return narrow
     return constants.past_its_type(module, own)
 
 

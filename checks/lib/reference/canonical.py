@@ -83,6 +83,8 @@ class Writer:
             words += field.array + ("" if field.array == "[" else " ") + self.expression(field.size) + "]"
         if field.width is not None:
             words += " : " + self.constant(field.width)
+        if field.source is not None:
+            words += " = " + self.source(field.source)
         if field.refinement is not None:
             words += " { %s }" % self.expression(field.refinement)
         if field.action is not None:
@@ -90,6 +92,9 @@ class Writer:
         if field.copy is not None:
             words += " {:copy %s}" % field.copy.name[1]
         return words + ";"
+
+    def source(self, tree):
+        return "*" + tree.cell[1] if tree.kind == "cell" else self.expression(tree)
 
     def fields(self, fields, blanks):
         return "".join("%s%s\n" % (blanks, self.field(field)) for field in fields)

@@ -117,9 +117,11 @@ class Elaborator:
     def field(self, scope, field, taken, every):
         name, at = field.name[1], field.name[2]
         element = self.element(scope, field)
+        if field.source is not None:
+            element = self.given(scope, field, element)
         self.breaches.note_if(name in taken or self.is_literal(name), "N2", at)
         extent, _ = self.extent(scope, field)
-        readable = extent[0] == "once" and element is not None and element.kind in ("number", "enum")
+        readable = extent[0] == "once" and element is not None and element.kind in ("number", "enum", "given")
         self.breaches.note_if(field.refinement is not None and not readable, "N3", at)
         width = field.width[1] if field.width is not None and readable and element.kind == "number" else None
         if readable:
@@ -146,6 +148,34 @@ class Elaborator:
         part = Record(name=name, width=width, low=None, refinement=refinement, action=action)
         return Record(element=element, extent=extent, copy=copy, parts=[part], at=at)
 
+    def given(self, scope, field, element):
+        """A field without bytes: the type of its value, and what gives it. `bytes_left` is a word only where it is all of an expression.
+        Another expression may be wider: the safety rule says whether it fits."""
+        tree = field.source
+        if element is None or element.kind != "number":
+            self.breaches.note_if(element is not None, "Y1", field.type[2])
+            return None
+        bits = bits_of(element.base)
+        made = Record(kind="given", base=element.base, source=tree.kind, core=None, cell=None, level=scope.levels, first=tree.first)
+        made.at = field.name[2]
+        if tree.kind == "NAME" and tree.value == "bytes_left":
+            made.source = "bytes_left"
+            self.breaches.note_if(bits < 32, "Y2", tree.first)
+        elif tree.kind == "cell":
+            found = self.known.find(scope, tree.cell[1])
+            if found is None or found.kind != "cell":
+                self.breaches.note("N1" if found is None else "N4", tree.cell[2])
+                return made
+            self.breaches.note_if(found.bits == 0, "Y1", tree.at)
+            self.breaches.note_if(found.bits > bits, "Y2", tree.at)
+            made.cell = found.cell
+        else:
+            made.source = "expression"
+            typing = self.typing(scope)
+            sort, made.core = typing.walk(tree)
+            typing.wanted(tree, sort, False)
+        return made
+
     def copy(self, scope, field, element):
         """Where a field's bytes go: the place of the buffer behind the cells, its room, and the place of the copy in the text."""
         is_bytes = field.array is not None and ARRAYS[field.array] == "bytes"
@@ -167,10 +197,12 @@ class Elaborator:
         fields = []
         for tree in trees:
             element = self.element(scope, tree, note=False)
+            if element is not None and tree.source is not None:
+                element = Record(kind="given", base=element.base) if element.kind == "number" else None
             silent.breaches = Breaches()
             extent, ends = silent.extent(scope, tree)
             ends = ends or bool(silent.breaches.found)
-            readable = extent[0] == "once" and element is not None and element.kind in ("number", "enum")
+            readable = extent[0] == "once" and element is not None and element.kind in ("number", "enum", "given")
             if element is None or ends:
                 break
             width = tree.width[1] if tree.width is not None else None

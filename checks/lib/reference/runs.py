@@ -73,7 +73,7 @@ def block_levels(statements):
 
 def field_levels(field):
     """The levels that a field's arguments and size name."""
-    found = levels_in(field.extent[1])
+    found = levels_in(field.extent[1]) | levels_in(getattr(field.element, "core", None))
     for core in getattr(field.element, "arguments", []):
         found |= levels_in(core)
     return found
@@ -121,6 +121,8 @@ class Run:
             if element.kind == "enum" and number not in element.values:
                 fails("constraint")
             position = start + width
+        elif element.kind == "given":
+            number = self.given(element, values, cells, places, start, end)
         else:
             position = self.array(field, values, cells, places, start, end)
         if field.copy is not None:
@@ -128,6 +130,12 @@ class Run:
         for part in field.parts:
             self.part(part, number, values, cells, places, start)
         return position
+
+    def given(self, element, values, cells, places, start, end):
+        """The value of a field without bytes."""
+        if element.source == "expression":
+            return value_of(element.core, values)
+        return cells[places[element.cell]] if element.source == "cell" else end - start
 
     def content(self, start, end):
         return bytes(map(self.memory.byte, range(start, end)))

@@ -7,6 +7,7 @@ import dataclasses
 from typing import Any
 
 from .errors import ModuleError
+from .scopes import bits_of
 from .sizes import field_lists
 from .values import Core, constant_of
 
@@ -173,11 +174,36 @@ def has_room(field, facts):
     return range_of(field.extent[1], facts)[1] <= field.copy.room
 
 
+def value_range(element, facts):
+    """Between which numbers the value of a field without bytes lies: in its expression's range, and in that one's type."""
+    low, high = range_of(element.core, facts)
+    return low, min(high, 2**element.core.type - 1)
+
+
+def given_unsafe(element, facts):
+    """A value that comes of an expression is safe, and fits its field: nothing is cut."""
+    yield from unsafe(element.core, facts)
+    if value_range(element, facts)[1] >= 2 ** bits_of(element.base):
+        yield element.first, "unsafe ="
+
+
+def facts_of_value(element, facts):
+    """What is known of a field without bytes: both ends of its value's range, where they are numbers of its type."""
+    bits = bits_of(element.base)
+    low, high = value_range(element, facts)
+    name = Core(kind="name", level=element.level, type=bits, most=2**bits - 1, parts=[], at=element.at)
+    ends = ((">=", low), ("<=", high))
+    return [keyed(relation, name, Core(kind="number", value=end, type=bits, parts=[])) for relation, end in ends if 0 <= end < 2**bits]
+
+
 def fields_unsafe(fields, facts):
     for field in fields:
         for core in getattr(field.element, "arguments", []):
             yield from unsafe(core, facts)
         yield from unsafe(field.extent[1], facts)
+        if field.element.kind == "given" and field.element.core is not None:
+            yield from given_unsafe(field.element, facts)
+            facts = facts + facts_of_value(field.element, facts)
         if field.copy is not None and not has_room(field, facts):
             yield field.copy.at, "room"
         for part in field.parts:

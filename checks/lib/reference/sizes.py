@@ -29,7 +29,7 @@ def constant_size(kind):
 
 
 def element_kind(types, element):
-    if element is None or element.kind == "unit":
+    if element is None or element.kind in ("unit", "given"):
         return 0, 0, False
     if element.kind in ("all_bytes", "all_zeros"):
         return 0, None, True
@@ -106,7 +106,7 @@ COUNTS = {
 
 
 def expression_nodes(tree):
-    return 0 if tree is None or tree.kind == "field_ptr" else 1 + sum(expression_nodes(part) for part in tree.parts)
+    return 0 if tree is None or tree.kind in ("field_ptr", "cell") else 1 + sum(expression_nodes(part) for part in tree.parts)
 
 
 def statement_nodes(tree):
@@ -123,7 +123,7 @@ def action_nodes(field):
 
 def inner_nodes(field):
     """Of a field's expressions and statements."""
-    return sum(expression_nodes(tree) for tree in field.arguments + [field.size, field.refinement]) + action_nodes(field)
+    return sum(expression_nodes(tree) for tree in field.arguments + [field.size, field.source, field.refinement]) + action_nodes(field)
 
 
 def tree_fields(tree):
@@ -169,7 +169,7 @@ class Sizing:
         return self.sizes[found] if found is not None else Record(depth=0, weight=0)
 
     def names_in(self, tree):
-        if tree is None or tree.kind == "field_ptr":
+        if tree is None or tree.kind in ("field_ptr", "cell"):
             return
         if tree.kind == "NAME":
             yield tree.value
@@ -198,7 +198,7 @@ class Sizing:
             used = self.used(field.type[1], hidden, seen) if field.type[0] == "NAME" else Record(depth=0, weight=0)
             one = 32 + 8 * inner_nodes(field) + used.weight
             weight += 2 * one + 64 if field.array else one
-            depth = max([depth, used.depth] + [self.depth_of(tree, hidden, seen) for tree in field.arguments + [field.size]])
+            depth = max([depth, used.depth] + [self.depth_of(tree, hidden, seen) for tree in field.arguments + [field.size, field.source]])
             hidden.add(field.name[1])
             depth = max(depth, self.depth_of(field.refinement, hidden, seen))
             if field.action:

@@ -30,8 +30,15 @@ class Reader:
             read = self.field(field, values, end)
             given += read
             is_number = field.extent[0] == "once" and field.element.kind in ("number", "enum")
-            values += read if is_number else [None]
+            values += read if is_number else [self.value(field, values, read)]
         return given
+
+    @staticmethod
+    def value(field, values, read):
+        """What a field without bytes brings into scope. A cell isn't known here."""
+        if field.element.kind != "given":
+            return None
+        return read[0] if field.element.source == "bytes_left" else value_of(field.element.core, values)
 
     def field(self, field, values, end):
         """The values of a field: one, or one for each bit field of a unit."""
@@ -62,6 +69,8 @@ class Reader:
         return found
 
     def element(self, element, values, end):
+        if element.kind == "given":
+            return end - self.place if element.source == "bytes_left" else None
         if element.kind in ("number", "enum"):
             return self.number(element.base)
         if element.kind == "unit":

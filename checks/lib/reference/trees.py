@@ -177,12 +177,15 @@ class Parser:
         tree = Tree(type=base, arguments=self.arguments() if base[0] == "NAME" else [])
         tree.name = self.take("NAME")
         tree.array, tree.size, tree.width, tree.refinement, tree.action, tree.copy = None, None, None, None, None, None
+        tree.source = None
         if self.next_is("[", *ARRAY_WORDS):
             tree.array = self.take("[", *ARRAY_WORDS)[0]
             tree.size = self.whole()
             self.take("]")
         elif self.take_if(":"):
             tree.width = self.take("NUM")
+        elif self.take_if("="):
+            tree.source = self.source()
         if self.take_if("{"):
             tree.refinement = self.whole()
             self.take("}")
@@ -195,6 +198,13 @@ class Parser:
             self.take("}")
         self.take(";")
         return tree
+
+    def source(self):
+        """What gives a field without bytes its value: a cell's content, or an expression."""
+        star = self.take_if("*")
+        if star:
+            return Tree(kind="cell", first=star[2], at=star[2], cell=self.take("NAME"), parts=[])
+        return self.whole()
 
     def fields(self, *ends):
         found = [self.field()]

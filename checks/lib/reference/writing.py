@@ -50,7 +50,7 @@ class Writer(Run):
 
     def __init__(self, types):
         super().__init__(types, None)
-        self.written = bytearray()
+        self.written, self.claims = bytearray(), []
 
     def want_room(self, count):
         want(len(self.written) + count <= MOST_MESSAGE, "E5", ())
@@ -118,6 +118,8 @@ class Writer(Run):
         else:
             self.write_array(field, values, cells, places, value, path)
         number = value if form == "once" and element.kind in ("number", "enum") else None
+        if element.kind == "given":
+            number = self.told(element, values, cells, places, value, start, path)
         self.test_part(field.parts[0], number, values, cells, places, start, path)
 
     # ---- Elements and arrays.
@@ -136,6 +138,8 @@ class Writer(Run):
         if element.kind in ("number", "enum"):
             self.write_listed(element, value, path)
             self.test_listed(element, value, path)
+        elif element.kind == "given":
+            pass
         elif element.kind == "all_bytes":
             self.write_bytes(value, path)
         elif element.kind == "all_zeros":
@@ -150,10 +154,12 @@ class Writer(Run):
     def write_array(self, field, values, cells, places, value, path):
         element, (form, core), start = field.element, field.extent, len(self.written)
         size = value_of(core, values)
+        claims, self.claims = self.claims, []
         if form == "zeroterm":
             want(ends_in_zero(list_of(value, path)), "E1", path)
             self.write_elements(element, values, cells, places, value, path)
             want(len(self.written) - start <= size, "E3", path)
+            self.claims = claims + self.claims
             return
         is_listed = form == "single" and element.kind in ("number", "enum")
         if is_listed:
@@ -165,6 +171,8 @@ class Writer(Run):
         else:
             self.write_elements(element, values, cells, places, list_of(value, path), path)
         want(len(self.written) - start == size, "E4", path)
+        self.keep_claims()
+        self.claims = claims
         if is_listed:
             self.test_listed(element, value, path)
 
@@ -172,9 +180,23 @@ class Writer(Run):
         for place, value in enumerate(given):
             self.write_element(element, values, cells, places, value, (*path, place))
 
+    def told(self, element, values, cells, places, value, start, path):
+        """The number of a field without bytes. What is said of the bytes that are left is looked at where they end."""
+        if element.source != "bytes_left":
+            want(value is None, "E1", path)
+            return self.given(element, values, cells, places, start, None)
+        number = number_of(value, bits_of(element.base), path)
+        self.claims.append((start, number, path))
+        return number
+
+    def keep_claims(self):
+        for place, number, path in self.claims:
+            want(place + number == len(self.written), "E4", path)
+
 
 def written(types, number, arguments, cells, value):
     """The bytes that are written of a value; Refused where it is refused. The cells stay as they were, and nothing is copied."""
     writer, left = Writer(types), opened(types[number], cells)
     writer.write(number, arguments, left, list(range(len(left))), value, ())
+    writer.keep_claims()
     return bytes(writer.written)

@@ -30,7 +30,7 @@ use Rattle.td_arith.proofs.States.{State, known}
 
 -- Rooms
 
-under : (h : ℤ) (n room : ℕ) → Reaches h n → int_lt (pos room) h ≡ false → n ≤ room
+pub under : (h : ℤ) (n room : ℕ) → Reaches h n → int_lt (pos room) h ≡ false → n ≤ room
 under (pos m) n room r e = let most : m ≤ room = ltb-false room m e in omega (arith, r, most)
 under (negsuc m) n room r e = absurd r
 

@@ -7,11 +7,11 @@ use Rattle.td_num.specs.Numbers.{bytes_in, falling_on, ordered_at, number_at}
 use Rattle.td_num.specs.declared.number.Width.{Width}
 use Rattle.td_num.specs.declared.number.ByteOrder.{ByteOrder}
 use Rattle.td_num.specs.declared.number.ByteOrder.TheVariants.{LittleEndian, BigEndian}
-use Rattle.td_arith.specs.Imports.{NumberType, Element, Number, Listed, Named, Unit as UnitElement, Rest, Zeros, Extent, Once, Filling, OnceFilling, UpToZero, Bits}
+use Rattle.td_arith.specs.Imports.{NumberType, Element, Number, Listed, Named, Unit as UnitElement, Rest, Zeros, Extent, Once, Filling, OnceFilling, UpToZero, Given, Bits}
 use Rattle.td_num.specs.Lists.{AreBytes}
 use Rattle.td_core.specs.Types.{limit}
 use Rattle.td_core.specs.Formed.{scalar_of, bits_bound, part_bound}
-use Rattle.td_meaning.specs.Meaning.{bits_of, field_number}
+use Rattle.td_meaning.specs.Meaning.{bits_of, given_value, field_number}
 use Rattle.td_num.proofs.Digits.{power_of_bytes as power, rising_small}
 use Rattle.td_expr.proofs.Widths.{limit_of_bytes as limit_is}
 
@@ -47,29 +47,43 @@ pub no_bits : (bits : Option Bits) → bits_of bits 0 ≤ 0
 no_bits None = omega arith
 no_bits (Some bits) = omega (arith, mod-le (0 / 2 ^ bits.low) (2 ^ bits.width), div-le_self 0 (2 ^ bits.low))
 
-pub field_number_fits : (element : Element) (extent : Extent) (bytes : List ℕ) → AreBytes bytes → (p : ℕ) (bits : Option Bits)
-    → bits_of bits (field_number element extent bytes p) ≤ (part_bound element extent bits).most
-field_number_fits (Number type) Once bytes small p bits = bits_small type.width bits (number_at type bytes p) (number_small bytes small type p)
-field_number_fits (Listed base k) Once bytes small p bits = bits_small base.width bits (number_at base bytes p) (number_small bytes small base p)
-field_number_fits (Named j args own) Once bytes small p bits = no_bits bits
-field_number_fits UnitElement Once bytes small p bits = no_bits bits
-field_number_fits Rest Once bytes small p bits = no_bits bits
-field_number_fits Zeros Once bytes small p bits = no_bits bits
-field_number_fits (Number type) (Filling e step) bytes small p bits = no_bits bits
-field_number_fits (Listed base k) (Filling e step) bytes small p bits = no_bits bits
-field_number_fits (Named j args own) (Filling e step) bytes small p bits = no_bits bits
-field_number_fits UnitElement (Filling e step) bytes small p bits = no_bits bits
-field_number_fits Rest (Filling e step) bytes small p bits = no_bits bits
-field_number_fits Zeros (Filling e step) bytes small p bits = no_bits bits
-field_number_fits (Number type) (OnceFilling e step) bytes small p bits = no_bits bits
-field_number_fits (Listed base k) (OnceFilling e step) bytes small p bits = no_bits bits
-field_number_fits (Named j args own) (OnceFilling e step) bytes small p bits = no_bits bits
-field_number_fits UnitElement (OnceFilling e step) bytes small p bits = no_bits bits
-field_number_fits Rest (OnceFilling e step) bytes small p bits = no_bits bits
-field_number_fits Zeros (OnceFilling e step) bytes small p bits = no_bits bits
-field_number_fits (Number type) (UpToZero e) bytes small p bits = no_bits bits
-field_number_fits (Listed base k) (UpToZero e) bytes small p bits = no_bits bits
-field_number_fits (Named j args own) (UpToZero e) bytes small p bits = no_bits bits
-field_number_fits UnitElement (UpToZero e) bytes small p bits = no_bits bits
-field_number_fits Rest (UpToZero e) bytes small p bits = no_bits bits
-field_number_fits Zeros (UpToZero e) bytes small p bits = no_bits bits
+-- what gives a field without bytes its number is no greater than the field can be
+abbrev pub IsGivenFit : Element → Extent → List ℕ → List ℕ → ℕ → ℕ → List ℕ → Type 0
+IsGivenFit element Once env places end p cells = Unit {0}
+IsGivenFit element (Filling size step) env places end p cells = Unit {0}
+IsGivenFit element (OnceFilling size step) env places end p cells = Unit {0}
+IsGivenFit element (UpToZero size) env places end p cells = Unit {0}
+IsGivenFit element (Given source) env places end p cells = given_value source env places end p cells ≤ (part_bound element (Given source) None).most
+
+pub field_number_fits : (element : Element) (extent : Extent) (env places bytes : List ℕ) → AreBytes bytes → (end p : ℕ) (cells : List ℕ) (bits : Option Bits) → IsGivenFit element extent env places end p cells
+    → bits_of bits (field_number element extent env places bytes end p cells) ≤ (part_bound element extent bits).most
+field_number_fits (Number type) Once env places bytes small end p cells bits h = bits_small type.width bits (number_at type bytes p) (number_small bytes small type p)
+field_number_fits (Listed base k) Once env places bytes small end p cells bits h = bits_small base.width bits (number_at base bytes p) (number_small bytes small base p)
+field_number_fits (Named j args own) Once env places bytes small end p cells bits h = no_bits bits
+field_number_fits UnitElement Once env places bytes small end p cells bits h = no_bits bits
+field_number_fits Rest Once env places bytes small end p cells bits h = no_bits bits
+field_number_fits Zeros Once env places bytes small end p cells bits h = no_bits bits
+field_number_fits (Number type) (Filling e step) env places bytes small end p cells bits h = no_bits bits
+field_number_fits (Listed base k) (Filling e step) env places bytes small end p cells bits h = no_bits bits
+field_number_fits (Named j args own) (Filling e step) env places bytes small end p cells bits h = no_bits bits
+field_number_fits UnitElement (Filling e step) env places bytes small end p cells bits h = no_bits bits
+field_number_fits Rest (Filling e step) env places bytes small end p cells bits h = no_bits bits
+field_number_fits Zeros (Filling e step) env places bytes small end p cells bits h = no_bits bits
+field_number_fits (Number type) (OnceFilling e step) env places bytes small end p cells bits h = no_bits bits
+field_number_fits (Listed base k) (OnceFilling e step) env places bytes small end p cells bits h = no_bits bits
+field_number_fits (Named j args own) (OnceFilling e step) env places bytes small end p cells bits h = no_bits bits
+field_number_fits UnitElement (OnceFilling e step) env places bytes small end p cells bits h = no_bits bits
+field_number_fits Rest (OnceFilling e step) env places bytes small end p cells bits h = no_bits bits
+field_number_fits Zeros (OnceFilling e step) env places bytes small end p cells bits h = no_bits bits
+field_number_fits (Number type) (UpToZero e) env places bytes small end p cells bits h = no_bits bits
+field_number_fits (Number type) (Given source) env places bytes small end p cells bits h = bits_small type.width bits (given_value source env places end p cells) h
+field_number_fits (Listed base k) (UpToZero e) env places bytes small end p cells bits h = no_bits bits
+field_number_fits (Listed base k) (Given source) env places bytes small end p cells bits h = no_bits bits
+field_number_fits (Named j args own) (UpToZero e) env places bytes small end p cells bits h = no_bits bits
+field_number_fits (Named j args own) (Given source) env places bytes small end p cells bits h = no_bits bits
+field_number_fits UnitElement (UpToZero e) env places bytes small end p cells bits h = no_bits bits
+field_number_fits UnitElement (Given source) env places bytes small end p cells bits h = no_bits bits
+field_number_fits Rest (UpToZero e) env places bytes small end p cells bits h = no_bits bits
+field_number_fits Rest (Given source) env places bytes small end p cells bits h = no_bits bits
+field_number_fits Zeros (UpToZero e) env places bytes small end p cells bits h = no_bits bits
+field_number_fits Zeros (Given source) env places bytes small end p cells bits h = no_bits bits

@@ -1,6 +1,6 @@
 -- Cited by other crates.
 -- Each expression of the parts of a field is sound.
-use Rattle.std.proofs.Common.{◌≡◌, ℕ, ◌^◌, ◌<◌, ◌≤◌, true, List, [], ◌∷◌, ◌++◌, refl, ◌∙◌, arith, Option, Some, None}
+use Rattle.std.proofs.Common.{◌≡◌, ℕ, ◌+◌, ◌^◌, ◌<◌, ◌≤◌, true, List, [], ◌∷◌, ◌++◌, length, refl, ap, ◌∙◌, arith, Option, Some, None, length-append}
 use Rattle.td_core.specs.Term.{Term, Deed}
 use Rattle.td_core.specs.declared.expressions.Scalar.TheVariants as scalar
 use Rattle.td_arith.specs.Imports.{NameId, Bits, Part, Element, Extent, Constraint, Action as ActionFails}
@@ -9,14 +9,16 @@ use Rattle.td_expr.specs.Facts.{Fact, facts_of}
 use Rattle.td_expr.specs.Sound.{Sound}
 use Rattle.td_expr.proofs.Admitting.{neither}
 use Rattle.td_meaning.specs.Doing.{Effect, On, Returned, Aborted, doing, is_true}
-use Rattle.td_arith.specs.SafeModule.{option_unsafe, known_after, action_unsafe, part_unsafe, parts_unsafe, known_after_parts}
+use Rattle.td_arith.specs.SafeModule.{option_unsafe, known_after, action_unsafe, part_facts, part_unsafe, known_after_part, parts_unsafe, known_after_parts}
 use Rattle.td_core.specs.Formed.{Bound, AllFit, whole, IsOptionScoped, IsActionFormed, ArePartsFormed, part_bound, parts_scope}
 use Rattle.td_meaning.specs.Meaning.{refined, ended, acted, checked, parts_meaning, bits_of, extended, field_place}
 use Rattle.td_meaning.specs.Throughout.{OnEnding, OnOption, OnAction, OnParts}
+use Rattle.td_arith.specs.declared.values.ValueRange.{ValueRange}
 use Rattle.td_arith.proofs.Fitting.{Stand}
 use Rattle.td_arith.proofs.States.{State, pushed, sound, told}
 use Rattle.td_meaning.proofs.Ending.{on_then, on_map, on_within, on_demanded}
 use Rattle.td_arith.proofs.Deeds.{EffectFits, deed_sound}
+use Rattle.td_arith.proofs.Given.{IsTold, part_known}
 
 -- the place is the same, the cells are within their bounds, and this is known
 abbrev Stays : List Bound → List Bound → List Fact → List ℕ → ℕ → ℕ → List ℕ → Type 0
@@ -48,26 +50,28 @@ action_sound all bounds places scope facts env (Some action) start q cells st fo
     let d = deed_sound all bounds places action (scope ++ whole scalar.ThirtyTwo ∷ []) facts (env ++ start ∷ []) cells st form (pushed scope facts env (whole scalar.ThirtyTwo) start s le) u f in
     (d.0, ended_fits all (doing action (env ++ start ∷ []) places cells) start q d.1)
 
-pub record PartsAre (all : List Bound) (element : Element) (extent : Extent) (scope : List Bound) (facts : List Fact) (ty : NameId) (start n : ℕ) (ps : List Part) (env places : List ℕ) (q : ℕ) (cells : List ℕ) : Type 0 where
+pub record PartsAre (all : List Bound) (element : Element) (extent : Extent) (scope : List Bound) (level : ℕ) (facts : List Fact) (range : Option ValueRange) (ty : NameId) (start n : ℕ) (ps : List Part) (env places : List ℕ) (q : ℕ) (cells : List ℕ) : Type 0 where
   pub sound : OnParts Sound start n ps env places q cells
-  pub stays : OnEnding (parts_meaning ty start n ps env places q cells).ending (λ r more. (r ≡ q) × (AllFit all more × State (parts_scope element extent scope ps) (known_after_parts facts ps) (extended env n ps)))
+  pub stays : OnEnding (parts_meaning ty start n ps env places q cells).ending (λ r more. (r ≡ q) × (AllFit all more × State (parts_scope element extent scope ps) (known_after_parts level facts range ps) (extended env n ps)))
 
 pub parts_sound : (all bounds : List Bound) (places : List ℕ) (element : Element) (extent : Extent) (ty : NameId) (start n : ℕ) → ((bits : Option Bits) → bits_of bits n ≤ (part_bound element extent bits).most) → start < 2 ^ 32 → Stand all bounds places
-    → (ps : List Part) (scope : List Bound) (facts : List Fact) (env : List ℕ) (q : ℕ) (cells : List ℕ)
-    → ArePartsFormed bounds element extent scope ps → State scope facts env → parts_unsafe facts ps ≡ None → AllFit all cells
-    → PartsAre all element extent scope facts ty start n ps env places q cells
+    → (range : Option ValueRange) → IsTold n range → (ps : List Part) (scope : List Bound) (level : ℕ) (facts : List Fact) (env : List ℕ) (q : ℕ) (cells : List ℕ)
+    → ArePartsFormed bounds element extent scope ps → length env ≡ level → State scope facts env → parts_unsafe level facts range ps ≡ None → AllFit all cells
+    → PartsAre all element extent scope level facts range ty start n ps env places q cells
 unfolding parts_meaning
-parts_sound all bounds places element extent ty start n small low st [] scope facts env q cells form s u f = record { sound = tt; stays = (refl, (f, s)) }
-parts_sound all bounds places element extent ty start n small low st (p ∷ ps) scope facts env q cells form s u f =
+parts_sound all bounds places element extent ty start n small low st range is [] scope level facts env q cells form at s u f = record { sound = tt; stays = (refl, (f, s)) }
+parts_sound all bounds places element extent ty start n small low st range is (p ∷ ps) scope level facts env q cells form at s u f =
     let b = part_bound element extent p.bits in
     let v = bits_of p.bits n in
     let wider = scope ++ b ∷ [] in
     let values = env ++ v ∷ [] in
-    let then = known_after facts p.refinement in
-    let here : State wider facts values = pushed scope facts env b v s (small p.bits) in
-    let all_parts = neither (part_unsafe facts p) (parts_unsafe then ps) u in
-    let own = neither (option_unsafe facts p.refinement) (action_unsafe then p.action) all_parts.0 in
-    let tested = refined_stays all wider facts values p.refinement start q cells form.0 here own.0 f in
+    let first = facts ++ part_facts level range p.bits in
+    let then = known_after_part level facts range p in
+    let here : State wider first values = part_known wider facts env n level range p.bits at is (pushed scope facts env b v s (small p.bits)) in
+    let next : length values ≡ level + 1 = length-append env (v ∷ []) ∙ ap (λ k. k + 1) at in
+    let all_parts = neither (part_unsafe first p) (parts_unsafe (level + 1) then range ps) u in
+    let own = neither (option_unsafe first p.refinement) (action_unsafe then p.action) all_parts.0 in
+    let tested = refined_stays all wider first values p.refinement start q cells form.0 here own.0 f in
     let acting : (r : ℕ) (more : List ℕ) → Stays all wider then values q r more
     → OnAction Sound p.action values places start more × OnEnding (acted p.action values places start r more).ending (Stays all wider then values q) =
     λ r more k.
@@ -75,11 +79,11 @@ parts_sound all bounds places element extent ty start n small low st (p ∷ ps) 
     (a.0, on_map (acted p.action values places start r more).ending (λ t rest. (t ≡ r) × AllFit all rest) (Stays all wider then values q) a.1 (λ t rest e. (e.0 ∙ k.0, (e.1, k.1.1)))) in
     let done : OnEnding (checked p values places start q cells).ending (Stays all wider then values q) =
     on_then (refined p.refinement values start q cells).ending (refined p.refinement values start q cells).reads (acted p.action values places start) (Stays all wider then values q) (Stays all wider then values q) tested (λ r more k. (acting r more k).1) in
-    let later : (r : ℕ) (more : List ℕ) → Stays all wider then values q r more → PartsAre all element extent wider then ty start n ps values places r more =
-    λ r more k. parts_sound all bounds places element extent ty start n small low st ps wider then values r more form.1.1 k.1.1 all_parts.1 k.1.0 in
+    let later : (r : ℕ) (more : List ℕ) → Stays all wider then values q r more → PartsAre all element extent wider (level + 1) then range ty start n ps values places r more =
+    λ r more k. parts_sound all bounds places element extent ty start n small low st range is ps wider (level + 1) then values r more form.1.1 next k.1.1 all_parts.1 k.1.0 in
     record {
       sound = (
-        option_sound wider facts values p.refinement form.0 here own.0,
+        option_sound wider first values p.refinement form.0 here own.0,
         (
           on_map (refined p.refinement values start q cells).ending (Stays all wider then values q) (λ r more. OnAction Sound p.action values places start more) tested (λ r more k. (acting r more k).0),
           on_map (checked p values places start q cells).ending (Stays all wider then values q) (OnParts Sound start n ps values places) done (λ r more k. (later r more k).sound),
@@ -87,10 +91,18 @@ parts_sound all bounds places element extent ty start n small low st (p ∷ ps) 
       );
       stays =
           on_then (within (field_place ty p.name start) (checked p values places start q cells)).ending (checked p values places start q cells).reads (parts_meaning ty start n ps values places)
-          (Stays all wider then values q) (λ r more. (r ≡ q) × (AllFit all more × State (parts_scope element extent wider ps) (known_after_parts then ps) (extended values n ps)))
+          (Stays all wider then values q) (λ r more. (r ≡ q) × (AllFit all more × State (parts_scope element extent wider ps) (known_after_parts (level + 1) then range ps) (extended values n ps)))
           (on_within (field_place ty p.name start) (checked p values places start q cells).ending (Stays all wider then values q) done)
           (λ r more k. on_map (parts_meaning ty start n ps values places r more).ending
-          (λ t rest. (t ≡ r) × (AllFit all rest × State (parts_scope element extent wider ps) (known_after_parts then ps) (extended values n ps)))
-          (λ t rest. (t ≡ q) × (AllFit all rest × State (parts_scope element extent wider ps) (known_after_parts then ps) (extended values n ps)))
+          (λ t rest. (t ≡ r) × (AllFit all rest × State (parts_scope element extent wider ps) (known_after_parts (level + 1) then range ps) (extended values n ps)))
+          (λ t rest. (t ≡ q) × (AllFit all rest × State (parts_scope element extent wider ps) (known_after_parts (level + 1) then range ps) (extended values n ps)))
           (later r more k).stays (λ t rest e. (e.0 ∙ k.0, e.1)));
     }
+
+-- each part has a value
+pub extended_length : (env : List ℕ) (n : ℕ) (ps : List Part) → length (extended env n ps) ≡ length env + length ps
+extended_length env n [] = omega arith
+extended_length env n (p ∷ ps) =
+    let rest = extended_length (env ++ bits_of p.bits n ∷ []) n ps in
+    let one = length-append env (bits_of p.bits n ∷ []) in
+    omega (arith, rest, one)

@@ -1,7 +1,7 @@
 -- Cited by other crates.
 -- Each expression that a field's shape evaluates is sound, and a field ends before the end.
 use Rattle.std.specs.Prelude.{int_lt, pos}
-use Rattle.td_arith.specs.Imports.{Room, NumberType, Element, Number, Listed, Named, Unit as UnitElement, Rest, Zeros, Extent, Once, Filling, OnceFilling, UpToZero, CopyOut, TypeDef, Constraint, ListSize}
+use Rattle.td_arith.specs.Imports.{Room, NumberType, Element, Number, Listed, Named, Unit as UnitElement, Rest, Zeros, Extent, Once, Filling, OnceFilling, UpToZero, Given, Source, Expression, FromCell, Left, CopyOut, TypeDef, Constraint, ListSize}
 use Rattle.td_expr.specs.Range.{range_of}
 use Rattle.std.proofs.Common.{◌≡◌, ℕ, zero, suc, ◌+◌, ◌-◌, ◌/◌, ◌^◌, ◌<◌, ◌≤◌, Bool, true, false, cond, min, List, [], ◌∷◌, map, refl, sym, subst, arith, Option, Some, None, slice_get, slice_index, nat_eq}
 use Rattle.std.proofs.lemmas.Option.{none-some}
@@ -17,10 +17,10 @@ use Rattle.td_expr.specs.Safe.{first_unsafe}
 use Rattle.td_expr.specs.Sound.{Sound}
 use Rattle.td_expr.proofs.Admitting.{neither}
 use Rattle.td_meaning.specs.Doing.{natural_of}
-use Rattle.td_arith.specs.SafeModule.{list_unsafe, element_unsafe, extent_unsafe, room_unsafe, copy_unsafe}
-use Rattle.td_core.specs.Formed.{Bound, AllFit, AreArgsFormed, AreCellsFormed, params_at, own_at, IsElementFormed, IsExtentFormed}
+use Rattle.td_arith.specs.SafeModule.{list_unsafe, element_unsafe, source_unsafe, extent_unsafe, value_range, value_unsafe, room_unsafe, copy_unsafe}
+use Rattle.td_core.specs.Formed.{Bound, AllFit, AreArgsFormed, AreCellsFormed, params_at, own_at, part_bound, IsElementFormed, IsSourceFormed, IsExtentFormed}
 use Rattle.td_meaning.specs.Meaning.{Sense, values, values_of, taken, demanded, is_nonzero, byte_type, zeros_end, numbers_at, element_meaning, elements, divides, equals, zero_end, up_to_zero, element_up_to_zero, shape_meaning, with_copy, content_meaning}
-use Rattle.td_meaning.specs.Throughout.{Through, OnEnding, OnAll, OnElement, OnElements, OnShape, OnContent}
+use Rattle.td_meaning.specs.Throughout.{Through, OnEnding, OnAll, OnElement, OnElements, OnSource, OnShape, OnContent}
 use Rattle.td_arith.proofs.Fitting.{Stand, stand_at}
 use Rattle.td_arith.proofs.Copies.{CopyStands, within_room, spare_sound, copy_fits}
 use Rattle.td_arith.proofs.States.{State, sound, number_fits}
@@ -127,8 +127,14 @@ module _ (sets : List (List ℕ)) (senses : ℕ → Sense) (throughs : ℕ → T
   element_up_to_zero_between Rest size end p cells le f = tt
   element_up_to_zero_between Zeros size end p cells le f = tt
 
-  pub shape_sound : (element : Element) (extent : Extent) (end p : ℕ) (cells : List ℕ) → IsElementFormed ds n bounds scope element → IsExtentFormed scope extent
-      → element_unsafe facts element ≡ None → extent_unsafe facts extent ≡ None → p ≤ end → end < 2 ^ 32 → AllFit all cells
+  source_sound : (most : ℕ) (b : Bound) (source : Source) → IsSourceFormed bounds scope b source → source_unsafe facts most source ≡ None → OnSource Sound source env
+  source_sound most b (Expression span e) form u =
+      sound scope facts env e s form (neither (value_unsafe span (int_lt (pos most) (value_range facts e).high)) (first_unsafe facts e) u).1
+  source_sound most b (FromCell c) form u = tt
+  source_sound most b Left form u = tt
+
+  pub shape_sound : (element : Element) (extent : Extent) (end p : ℕ) (cells : List ℕ) → IsElementFormed ds n bounds scope element → IsExtentFormed bounds scope element extent
+      → element_unsafe facts element ≡ None → extent_unsafe facts element extent ≡ None → p ≤ end → end < 2 ^ 32 → AllFit all cells
       → OnShape Sound sets senses throughs element extent env places message end p cells
       × OnEnding (shape_meaning sets senses element extent env places message end p cells).ending (Between all p end)
   shape_sound element Once end p cells form sized u v le low f = element_sound element p end p cells form u le low f
@@ -181,13 +187,15 @@ module _ (sets : List (List ℕ)) (senses : ℕ → Sense) (throughs : ℕ → T
       )
   shape_sound element (UpToZero size) end p cells form sized u v le low f =
       (sound scope facts env size s sized v, element_up_to_zero_between element (natural_of size env) end p cells le f)
+  shape_sound element (Given source) end p cells form sized u v le low f =
+      (source_sound (part_bound element (Given source) None).most (part_bound element (Given source) None) source sized v, ((omega arith, le), f))
 
   has_room : (c : CopyOut) (b : Bool) → room_unsafe c b ≡ None → b ≡ false
   has_room c true u = absurd (none-some (Room c.span) (sym u))
   has_room c false u = refl
 
-  pub content_sound : (element : Element) (extent : Extent) (copy : Option CopyOut) (end p : ℕ) (cells : List ℕ) → IsElementFormed ds n bounds scope element → IsExtentFormed scope extent
-      → OfSome (CopyStands bounds) copy → element_unsafe facts element ≡ None → extent_unsafe facts extent ≡ None → copy_unsafe facts copy extent ≡ None → p ≤ end → end < 2 ^ 32 → AllFit all cells
+  pub content_sound : (element : Element) (extent : Extent) (copy : Option CopyOut) (end p : ℕ) (cells : List ℕ) → IsElementFormed ds n bounds scope element → IsExtentFormed bounds scope element extent
+      → OfSome (CopyStands bounds) copy → element_unsafe facts element ≡ None → extent_unsafe facts element extent ≡ None → copy_unsafe facts copy extent ≡ None → p ≤ end → end < 2 ^ 32 → AllFit all cells
       → OnContent Sound sets senses throughs element extent copy env places message end p cells
       × OnEnding (content_meaning sets senses element extent copy env places message end p cells).ending (Between all p end)
   content_sound element extent None end p cells form sized held u v w le low f = shape_sound element extent end p cells form sized u v le low f
@@ -204,3 +212,4 @@ module _ (sets : List (List ℕ)) (senses : ℕ → Sense) (throughs : ℕ → T
   content_sound element Once (Some c) end p cells form sized held u v w le low f = shape_sound element Once end p cells form sized u v le low f
   content_sound element (OnceFilling size step) (Some c) end p cells form sized held u v w le low f = shape_sound element (OnceFilling size step) end p cells form sized u v le low f
   content_sound element (UpToZero size) (Some c) end p cells form sized held u v w le low f = shape_sound element (UpToZero size) end p cells form sized u v le low f
+  content_sound element (Given source) (Some c) end p cells form sized held u v w le low f = shape_sound element (Given source) end p cells form sized u v le low f

@@ -7,7 +7,7 @@ use Rattle.td_num.specs.Numbers.{bytes_in, number_at, places_from}
 use Rattle.td_num.specs.Lists.{is_among, first_where}
 use Rattle.td_num.proofs.Lists.{found_below}
 use Rattle.td_core.specs.Term.{Term}
-use Rattle.td_arith.specs.Imports.{NameId, Element, Number, Listed, Named, Unit as UnitElement, Rest, Zeros, Extent, Once, Filling, OnceFilling, UpToZero, CopyOut, Field, Case, Body, Struct, Casetype, TypeDef, NotEnough, Constraint, ListSize, Kind}
+use Rattle.td_arith.specs.Imports.{NameId, Element, Number, Listed, Named, Unit as UnitElement, Rest, Zeros, Extent, Once, Filling, OnceFilling, UpToZero, Given, CopyOut, Field, Case, Body, Struct, Casetype, TypeDef, NotEnough, Constraint, ListSize, Kind}
 use Rattle.td_core.specs.Outcome.{Behavior, accepted, and_then, within, after_reading}
 use Rattle.td_expr.specs.Value.{natural}
 use Rattle.td_expr.specs.Same.{constant_of}
@@ -126,6 +126,7 @@ module _ (sets : List (List ℕ)) (kinds : ℕ → Kind) (senses : ℕ → Sense
       (λ t final w. on_demanded ListSize (nat_eq t q) p t final (Sized (sized_kind (constant_of size)) p end)
       (λ e. let f = eqb-true t q e in sized_bytes size env p end t final (f ∙ h.0) (omega (arith, f, h.1))))))
   shape_sized element (UpToZero size) env places message end p cells le = up_to_zero_sized element (natural_of size env) message end p cells le
+  shape_sized element (Given source) env places message end p cells le = (omega arith, (le, omega arith))
 
   content_sized : (element : Element) (extent : Extent) (copy : Option CopyOut) (env places message : List ℕ) (end p : ℕ) (cells : List ℕ) → p ≤ end
       → OnEnding (content_meaning sets senses element extent copy env places message end p cells).ending (Sized (field_kind kinds element extent) p end)
@@ -138,16 +139,17 @@ module _ (sets : List (List ℕ)) (kinds : ℕ → Kind) (senses : ℕ → Sense
   content_sized element Once (Some c) env places message end p cells le = shape_sized element Once env places message end p cells le
   content_sized element (OnceFilling size step) (Some c) env places message end p cells le = shape_sized element (OnceFilling size step) env places message end p cells le
   content_sized element (UpToZero size) (Some c) env places message end p cells le = shape_sized element (UpToZero size) env places message end p cells le
+  content_sized element (Given source) (Some c) env places message end p cells le = shape_sized element (Given source) env places message end p cells le
 
   -- Fields
 
   field_sized : (ty : NameId) (f : Field) (env places message : List ℕ) (end p : ℕ) (cells : List ℕ) (go : ℕ → List ℕ → Behavior) (K : Kind) → p ≤ end
       → ((q : ℕ) (more : List ℕ) → Sized (field_kind kinds f.element f.extent) p end q more → OnEnding (go q more).ending (Sized K p end)) → (reads : List ℕ)
       → OnEnding (and_then (within (field_place ty (first_name f.parts) p) (content_meaning sets senses f.element f.extent f.copy env places message end p cells))
-      (λ q cells. after_reading reads (and_then (parts_meaning ty p (field_number f.element f.extent message p) f.parts env places q cells) go))).ending (Sized K p end)
+      (λ q more. after_reading reads (and_then (parts_meaning ty p (field_number f.element f.extent env places message end p cells) f.parts env places q more) go))).ending (Sized K p end)
   field_sized ty f env places message end p cells go K le next reads =
       let shape = content_meaning sets senses f.element f.extent f.copy env places message end p cells in
-      let v = field_number f.element f.extent message p in
+      let v = field_number f.element f.extent env places message end p cells in
       on_then (within (field_place ty (first_name f.parts) p) shape).ending shape.reads (λ q cells. after_reading reads (and_then (parts_meaning ty p v f.parts env places q cells) go))
       (Sized (field_kind kinds f.element f.extent) p end) (Sized K p end)
       (on_within (field_place ty (first_name f.parts) p) shape.ending (Sized (field_kind kinds f.element f.extent) p end) (content_sized f.element f.extent f.copy env places message end p cells le))
@@ -167,10 +169,10 @@ module _ (sets : List (List ℕ)) (kinds : ℕ → Kind) (senses : ℕ → Sense
   unfolding fields_meaning
   fields_sized ty [] env places message end p cells le = (omega arith, (le, omega arith))
   fields_sized ty (x ∷ []) env places message end p cells le =
-      field_sized ty x env places message end p cells (fields_meaning sets senses ty [] (extended env (field_number x.element x.extent message p) x.parts) places message end) (field_kind kinds x.element x.extent) le
+      field_sized ty x env places message end p cells (fields_meaning sets senses ty [] (extended env (field_number x.element x.extent env places message end p cells) x.parts) places message end) (field_kind kinds x.element x.extent) le
       (λ q more h. h) (number_places (is_needed (length env) x.parts []) x.element x.extent p)
   fields_sized ty (x ∷ y ∷ fs) env places message end p cells le =
-      let more_env = extended env (field_number x.element x.extent message p) x.parts in
+      let more_env = extended env (field_number x.element x.extent env places message end p cells) x.parts in
       field_sized ty x env places message end p cells (fields_meaning sets senses ty (y ∷ fs) more_env places message end) (joined (field_kind kinds x.element x.extent) (fields_kind kinds (y ∷ fs))) le
       (λ q more h. on_map (fields_meaning sets senses ty (y ∷ fs) more_env places message end q more).ending (Sized (fields_kind kinds (y ∷ fs)) q end) (Sized (joined (field_kind kinds x.element x.extent) (fields_kind kinds (y ∷ fs))) p end)
       (fields_sized ty (y ∷ fs) more_env places message end q more h.1.0)

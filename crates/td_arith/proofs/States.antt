@@ -27,7 +27,7 @@ known scope env (either a b) h s = (known scope env a h s.0, known scope env b h
 known scope env (choice c a b) h s = (known scope env c h s.0, (known scope env a h s.1.0, known scope env b h s.1.1))
 known scope env (range_okay c a b) h s = (known scope env c h s.0, (known scope env a h s.1.0, known scope env b h s.1.1))
 
-placed_append : (n : ℕ) (fs gs : List Fact) → AllPlaced n fs → AllPlaced n gs → AllPlaced n (fs ++ gs)
+pub placed_append : (n : ℕ) (fs gs : List Fact) → AllPlaced n fs → AllPlaced n gs → AllPlaced n (fs ++ gs)
 placed_append n [] gs h k = k
 placed_append n (f ∷ fs) gs h k = (h.0, placed_append n fs gs h.1 k)
 
@@ -93,3 +93,7 @@ told scope facts env e truth s i g h = record {
 -- its number, where a number of the machine stands
 pub number_fits : (env : List ℕ) (e : Term) (most : ℕ) → Sound e env → limit (type_of e) ≤ suc most → natural_of e env ≤ most
 number_fits env e most g wide = let small = below_limit (type_of e) (value_of e env) (in_type e env g) in omega (arith, small, wide)
+
+-- more is known of the same values
+pub known_too : (scope : List Bound) (facts more : List Fact) (env : List ℕ) → State scope facts env → AllPlaced (length env) more → AllHold more env → State scope (facts ++ more) env
+known_too scope facts more env s p h = record { fits = s.fits; placed = placed_append (length env) facts more s.placed p; holds = all_append facts more env s.holds h }

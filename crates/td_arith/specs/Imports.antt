@@ -1,6 +1,8 @@
 -- Types of the crates below, by one path. Other crates don't see this file's names: a library passes on its own definitions alone.
 pub use Rattle.td_core.specs.declared.expressions.Binary.TheVariants.{Subtract}
+pub use Rattle.td_ast.specs.declared.token.Span.{Span}
 pub use Rattle.td_core.specs.declared.expressions.Relation.{Relation}
+pub use Rattle.td_core.specs.declared.expressions.Relation.TheVariants.{GreaterEqual, LessEqual}
 pub use Rattle.td_core.specs.declared.expressions.Scalar.TheVariants.{Eight, ThirtyTwo}
 pub use Rattle.td_core.specs.declared.kind.Kind.{Kind}
 pub use Rattle.td_core.specs.declared.module.Bits.{Bits}
@@ -12,13 +14,15 @@ pub use Rattle.td_core.specs.declared.module.Element.{Element}
 pub use Rattle.td_core.specs.declared.module.Element.TheVariants.{Listed, Named, Number, Rest, Unit, Zeros}
 pub use Rattle.td_core.specs.declared.module.Entry.{Entry}
 pub use Rattle.td_core.specs.declared.module.Extent.{Extent}
-pub use Rattle.td_core.specs.declared.module.Extent.TheVariants.{Filling, Once, OnceFilling, UpToZero}
+pub use Rattle.td_core.specs.declared.module.Extent.TheVariants.{Filling, Given, Once, OnceFilling, UpToZero}
 pub use Rattle.td_core.specs.declared.module.Field.{Field}
 pub use Rattle.td_core.specs.declared.module.Module.{Module}
 pub use Rattle.td_core.specs.declared.module.NameId.{NameId}
 pub use Rattle.td_core.specs.declared.module.Part.{Part}
+pub use Rattle.td_core.specs.declared.module.Source.{Source}
+pub use Rattle.td_core.specs.declared.module.Source.TheVariants.{Cell as FromCell, Expression, Left}
 pub use Rattle.td_core.specs.declared.module.TypeDef.{TypeDef}
 pub use Rattle.td_core.specs.declared.outcome.Reason.TheVariants.{Action, Constraint, ListSize, NotEnough}
 pub use Rattle.td_expr.specs.declared.safety.Unsafe.{Unsafe}
-pub use Rattle.td_expr.specs.declared.safety.Unsafe.TheVariants.{Operator, Room}
+pub use Rattle.td_expr.specs.declared.safety.Unsafe.TheVariants.{Operator, Room, Value}
 pub use Rattle.td_num.specs.declared.number.NumberType.{NumberType}

@@ -27,22 +27,24 @@ pub(crate) fn definition_unsafe(
 {
     let mut known: Vec<Known> = Vec::new(alloc);
     let guard = test_unsafe(alloc, &definition.guard, &mut known)?;
-    let body = body_unsafe(alloc, &definition.guard, &definition.body)?;
+    let level = definition.params.len() as u64;
+    let body = body_unsafe(alloc, level, &definition.guard, &definition.body)?;
     Ok(first_of(guard, body))
 }
 
-/// Fields where a definition's `where` is known.
+/// Fields where a definition's `where` is known, and so many values are in scope.
 fn fields_under(
     alloc: Global,
+    level: u64,
     guard: &Option<CoreExpr>,
     fields: &[Field],
 ) -> Result<Option<Unsafe>, AllocError>
-    ensures first { IfOk result (λ u. u ≡ fields_unsafe (known_after [] guard.now) fields.now) }
+    ensures first { IfOk result (λ u. u ≡ fields_unsafe level (known_after [] guard.now) fields.now) }
     ensures memory { OnErr result ((guard.now ≢ None) ⊎ (0 < length fields.now)) }
 {
     let mut known: Vec<Known> = Vec::new(alloc);
     learn(guard, &mut known)?;
-    fields_unsafe(alloc, fields, &mut known)
+    fields_unsafe(alloc, level, fields, &mut known)
 }
 
 fn switch_unsafe(
@@ -60,15 +62,16 @@ fn switch_unsafe(
 
 fn cases_unsafe(
     alloc: Global,
+    level: u64,
     guard: &Option<CoreExpr>,
     cases: &[Case],
 ) -> Result<Option<Unsafe>, AllocError>
-    ensures first { IfOk result (λ u. u ≡ cases_unsafe (known_after [] guard.now) cases.now) }
+    ensures first { IfOk result (λ u. u ≡ cases_unsafe level (known_after [] guard.now) cases.now) }
     ensures memory { OnErr result (0 < length cases.now) }
 {
     let mut found = None;
     for case in cases {
-        let own = fields_under(alloc, guard, case.fields.as_slice())?;
+        let own = fields_under(alloc, level, guard, case.fields.as_slice())?;
         found = first_of(found, own);
     }
     Ok(found)
@@ -76,14 +79,15 @@ fn cases_unsafe(
 
 fn default_unsafe(
     alloc: Global,
+    level: u64,
     guard: &Option<CoreExpr>,
     default: &Option<Items<Field>>,
 ) -> Result<Option<Unsafe>, AllocError>
-    ensures first { IfOk result (λ u. u ≡ default_unsafe (known_after [] guard.now) default.now) }
+    ensures first { IfOk result (λ u. u ≡ default_unsafe level (known_after [] guard.now) default.now) }
     ensures memory { OnErr result (default.now ≢ None) }
 {
     match default {
-        Some(fields) => fields_under(alloc, guard, fields.as_slice()),
+        Some(fields) => fields_under(alloc, level, guard, fields.as_slice()),
         None => Ok(None),
     }
 }
@@ -91,37 +95,39 @@ fn default_unsafe(
 /// The switch, the cases and `default`, each where `where` is known.
 fn casetype_unsafe(
     alloc: Global,
+    level: u64,
     guard: &Option<CoreExpr>,
     switch: &CoreExpr,
     cases: &[Case],
     default: &Option<Items<Field>>,
 ) -> Result<Option<Unsafe>, AllocError>
     ensures first { IfOk result (λ u. u ≡ first (first_unsafe (known_after [] guard.now) switch.now)
-        (first (cases_unsafe (known_after [] guard.now) cases.now) (default_unsafe
+        (first (cases_unsafe level (known_after [] guard.now) cases.now) (default_unsafe level
         (known_after [] guard.now) default.now))) }
     ensures memory { OnErr result ((guard.now ≢ None)
         ⊎ (HasOperands switch.now ⊎ ((0 < length cases.now) ⊎ (default.now ≢ None)))) }
 {
     let own = switch_unsafe(alloc, guard, switch)?;
-    let inside = cases_unsafe(alloc, guard, cases)?;
-    let otherwise = default_unsafe(alloc, guard, default)?;
+    let inside = cases_unsafe(alloc, level, guard, cases)?;
+    let otherwise = default_unsafe(alloc, level, guard, default)?;
     Ok(first_of(own, first_of(inside, otherwise)))
 }
 
 fn body_unsafe(
     alloc: Global,
+    level: u64,
     guard: &Option<CoreExpr>,
     body: &Body,
 ) -> Result<Option<Unsafe>, AllocError>
-    ensures first { IfOk result (λ u. u ≡ body_unsafe (known_after [] guard.now) body.now) }
+    ensures first { IfOk result (λ u. u ≡ body_unsafe level (known_after [] guard.now) body.now) }
     ensures memory { OnErr result ((guard.now ≢ None) ⊎ HasInside body.now) }
 {
     match body {
-        Body::Struct(fields) => fields_under(alloc, guard, fields.as_slice()),
+        Body::Struct(fields) => fields_under(alloc, level, guard, fields.as_slice()),
         Body::Casetype {
             switch,
             cases,
             default,
-        } => casetype_unsafe(alloc, guard, switch, cases.as_slice(), default),
+        } => casetype_unsafe(alloc, level, guard, switch, cases.as_slice(), default),
     }
 }

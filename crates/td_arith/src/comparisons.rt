@@ -5,14 +5,26 @@ ghost use Rattle.td_expr.specs.Same.{constant_of};
 ghost use Rattle.td_arith.specs.Sides.{side_of};
 
 use td_arith_ranges::same::constant_difference;
-use td_core::expressions::{CoreExpr, Relation};
+use td_core::expressions::{CoreExpr, Relation, Scalar};
 use td_expr::constant::constant_of;
 
-/// One side of a comparison: an expression, or the difference of two, which `is_range_okay` compares and nobody wrote.
+/// One side of a comparison: an expression; the difference of two, which `is_range_okay` compares and nobody wrote; or, of a field
+/// without bytes, its name or an end of its range.
 #[derive(Clone, Copy)]
 pub enum Side<'a> {
     Whole(&'a CoreExpr),
     Difference(&'a CoreExpr, &'a CoreExpr),
+    /// A value in scope by its level, its type, and the greatest value that it can have.
+    Name {
+        level: u64,
+        scalar: Scalar,
+        most: u64,
+    },
+    /// A number of a type.
+    Number {
+        value: u64,
+        scalar: Scalar,
+    },
 }
 
 /// A comparison that is known to be true, with the value of each side that is constant. A side is worked out once, when the
@@ -35,6 +47,8 @@ fn value_of(side: Side) -> Option<u64>
     match side {
         Side::Whole(e) => constant_of(e),
         Side::Difference(a, b) => constant_difference(a, b),
+        Side::Name { .. } => None,
+        Side::Number { value, .. } => Some(value),
     }
 }
 

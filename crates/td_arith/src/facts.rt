@@ -2,7 +2,7 @@
 
 ghost use Rattle.std.specs.Prelude.{◌≡◌, ◌&&◌, ◌<◌, length, IfOk, OnErr};
 ghost use Rattle.td_arith.specs.Imports.{Subtract};
-ghost use Rattle.td_core.specs.Term.{compute};
+ghost use Rattle.td_core.specs.Term.{number, name, compute};
 ghost use Rattle.td_expr.specs.Same.{same};
 ghost use Rattle.td_expr.specs.Facts.{no_span, some_fact};
 ghost use Rattle.td_expr.specs.Range.{cut_where, cut_by, cut_by_all, narrowed};
@@ -29,6 +29,30 @@ pub enum Question<'a> {
     Sum(Scalar, &'a CoreExpr, &'a CoreExpr),
 }
 
+/// Whether an expression is the name of a value in scope: by its level, its type and the greatest value that it can have.
+fn is_name(level: u64, scalar: Scalar, most: u64, e: &CoreExpr) -> bool
+    ensures { result ≡ same (name level scalar most) e.now }
+{
+    match &e.node {
+        Node::Name {
+            level: own,
+            scalar: own_scalar,
+            most: own_most,
+        } => level == u64::from(*own) && scalar == *own_scalar && most == *own_most,
+        _ => false,
+    }
+}
+
+/// Whether an expression has the value of a number of a type.
+fn is_number(value: u64, scalar: Scalar, e: &CoreExpr) -> bool
+    ensures { result ≡ same (number value scalar) e.now }
+{
+    match constant_of(e) {
+        Some(n) => value == n && scalar == type_of(e),
+        None => false,
+    }
+}
+
 /// Whether a side is this expression.
 fn is_side(side: Side, e: &CoreExpr) -> bool
     ensures { result ≡ same (side_of side.entry) e.now }
@@ -36,6 +60,12 @@ fn is_side(side: Side, e: &CoreExpr) -> bool
     match side {
         Side::Whole(a) => is_same(a, e),
         Side::Difference(a, b) => is_same_difference(a, b, e),
+        Side::Name {
+            level,
+            scalar,
+            most,
+        } => is_name(level, scalar, most, e),
+        Side::Number { value, scalar } => is_number(value, scalar, e),
     }
 }
 
@@ -167,6 +197,7 @@ fn is_bound(w: Scalar, a: &CoreExpr, b: &CoreExpr, left: Side, right: Side) -> b
             _ => false,
         },
         Side::Difference(c, d) => bounds(w, a, b, left, c, d),
+        Side::Name { .. } | Side::Number { .. } => false,
     }
 }
 

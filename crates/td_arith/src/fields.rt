@@ -1,14 +1,15 @@
 //! The first operator of fields that isn't safe.
 
-ghost use Rattle.std.specs.Prelude.{◌≡◌, ◌≢◌, ◌<◌, None, length, IfOk, OnOk, OnErr, IsSomeAnd};
+ghost use Rattle.std.specs.Prelude.{◌≡◌, ◌≢◌, ◌+◌, ◌<◌, None, length, IfOk, OnOk, OnErr, IsSomeAnd};
 ghost use Rattle.td_core.specs.Copying.{HasOperands};
 ghost use Rattle.td_arith.specs.Known.{facts_in};
-ghost use Rattle.td_arith.specs.SafeModule.{option_unsafe, known_after, list_unsafe, element_unsafe, extent_unsafe, part_unsafe, parts_unsafe, known_after_parts, room_unsafe, copy_unsafe, field_unsafe, fields_unsafe};
+ghost use Rattle.td_arith.specs.SafeModule.{option_unsafe, known_after, list_unsafe, element_unsafe, part_unsafe, parts_unsafe, known_after_parts, room_unsafe, copy_unsafe, field_unsafe, known_after_field, fields_unsafe};
 
 use crate::actions::action_unsafe;
 use crate::comparisons::Known;
 use crate::expressions::first_of;
-use crate::learning::learn_condition;
+use crate::learning::{learn_condition, learn_part};
+use crate::values::{ValueRange, look_at_extent};
 use crate::walk::{expression_unsafe, passes};
 use std::alloc::{AllocError, Global};
 use td_core::expressions::CoreExpr;
@@ -43,20 +44,24 @@ pub fn learn<'a>(test: &'a Option<CoreExpr>, known: &mut Vec<Known<'a>>) -> Resu
     Ok(())
 }
 
-/// The first operator of fields that isn't safe where conditions are known to hold. What is known afterwards is of no further
-/// use. `AllocError`: there is a field, and there was no memory to look.
+/// The first operator of fields that isn't safe where conditions are known to hold and so many values are in scope. What is known
+/// afterwards is of no further use. `AllocError`: there is a field, and there was no memory to look, or 2^64 values or more are in
+/// scope.
 pub(crate) fn fields_unsafe<'a>(
     alloc: Global,
+    level: u64,
     fields: &'a [Field],
     known: &mut Vec<Known<'a>>,
 ) -> Result<Option<Unsafe>, AllocError>
-    ensures first { IfOk result (λ u. u ≡ fields_unsafe (facts_in known.old.items) fields.now) }
+    ensures first { IfOk result (λ u. u ≡ fields_unsafe level (facts_in known.old.items) fields.now) }
     ensures memory { OnErr result (0 < length fields.now) }
 {
     let mut found = None;
+    let mut here = level;
     for field in fields {
-        let own = field_unsafe(alloc, field, known)?;
+        let own = field_unsafe(alloc, here, field, known)?;
         found = first_of(found, own);
+        here = next_level(here, field.parts.len() as u64)?;
     }
     Ok(found)
 }
@@ -92,22 +97,6 @@ fn element_unsafe<'a>(
     }
 }
 
-fn extent_unsafe<'a>(
-    alloc: Global,
-    extent: &'a Extent,
-    known: &mut Vec<Known<'a>>,
-) -> Result<Option<Unsafe>, AllocError>
-    ensures first { IfOk result (λ u. u ≡ extent_unsafe (facts_in known.old.items) extent.now) }
-    ensures same { OnOk result (known.new.items ≡ known.old.items) }
-{
-    match extent {
-        Extent::Once => Ok(None),
-        Extent::Filling { size, .. }
-        | Extent::OnceFilling { size, .. }
-        | Extent::UpToZero { size } => { expression_unsafe(alloc, size, known) }
-    }
-}
-
 /// A part's refinement, and then its action, where the refinement is known.
 fn part_unsafe<'a>(
     alloc: Global,
@@ -124,20 +113,33 @@ fn part_unsafe<'a>(
     Ok(first_of(own, acted))
 }
 
-/// The parts of a field, whose refinements are known from then on.
+/// The next level. `AllocError`: there are 2^64 values in scope.
+fn next_level(level: u64, more: u64) -> Result<u64, AllocError>
+    ensures { IfOk result (λ n. n ≡ level + more) }
+{
+    level.checked_add(more).ok_or(AllocError)
+}
+
+/// The parts of a field, of which the first has this level. What is known of its value, and their refinements, are known from then
+/// on.
 fn parts_unsafe<'a>(
     alloc: Global,
+    level: u64,
+    range: Option<ValueRange>,
     parts: &'a [Part],
     known: &mut Vec<Known<'a>>,
 ) -> Result<Option<Unsafe>, AllocError>
-    ensures first { IfOk result (λ u. u ≡ parts_unsafe (facts_in known.old.items) parts.now) }
+    ensures first { IfOk result (λ u. u ≡ parts_unsafe level (facts_in known.old.items) range parts.now) }
     ensures learned { OnOk result (facts_in known.new.items ≡
-        known_after_parts (facts_in known.old.items) parts.now) }
+        known_after_parts level (facts_in known.old.items) range parts.now) }
 {
     let mut found = None;
+    let mut here = level;
     for part in parts {
+        learn_part(here, range, part.bits, known)?;
         let own = part_unsafe(alloc, part, known)?;
         found = first_of(found, own);
+        here = next_level(here, 1)?;
     }
     Ok(found)
 }
@@ -172,19 +174,20 @@ fn copy_unsafe<'a>(
     }
 }
 
-/// A field: its element's arguments, its size, its copy, its parts.
+/// A field: its element's arguments, its size or value, its copy, its parts, of which the first has this level.
 fn field_unsafe<'a>(
     alloc: Global,
+    level: u64,
     field: &'a Field,
     known: &mut Vec<Known<'a>>,
 ) -> Result<Option<Unsafe>, AllocError>
-    ensures first { IfOk result (λ u. u ≡ field_unsafe (facts_in known.old.items) field.now) }
+    ensures first { IfOk result (λ u. u ≡ field_unsafe level (facts_in known.old.items) field.now) }
     ensures learned { OnOk result (facts_in known.new.items ≡
-        known_after_parts (facts_in known.old.items) field.now.parts) }
+        known_after_field level (facts_in known.old.items) field.now) }
 {
     let element = element_unsafe(alloc, &field.element, known)?;
-    let extent = extent_unsafe(alloc, &field.extent, known)?;
+    let extent = look_at_extent(alloc, &field.element, &field.extent, known)?;
     let copy = copy_unsafe(alloc, field.copy, &field.extent, known)?;
-    let parts = parts_unsafe(alloc, field.parts.as_slice(), known)?;
-    Ok(first_of(element, first_of(extent, first_of(copy, parts))))
+    let parts = parts_unsafe(alloc, level, extent.range, field.parts.as_slice(), known)?;
+    Ok(first_of(element, first_of(extent.unsafe_at, first_of(copy, parts))))
 }

@@ -1,4 +1,4 @@
-//! What a condition tells that is true, or is false.
+//! What a condition tells that is true, or is false, and what is known of a value by its range.
 
 ghost use Rattle.std.specs.Prelude.{◌≡◌, ◌++◌, OnOk};
 ghost use Rattle.td_arith.specs.Imports.{Subtract};
@@ -6,11 +6,14 @@ ghost use Rattle.td_core.specs.declared.expressions.Relation.TheVariants.{LessEq
 ghost use Rattle.td_core.specs.Term.{compute};
 ghost use Rattle.td_expr.specs.Facts.{fact, facts_of, no_span};
 ghost use Rattle.td_arith.specs.Known.{comparison, IsLearned};
+ghost use Rattle.td_arith.specs.SafeModule.{end_fact, value_facts, part_facts};
 
 use crate::comparisons::{Known, Side, compared};
+use crate::values::ValueRange;
 use std::alloc::AllocError;
 use td_arith_ranges::relations::turned;
 use td_core::expressions::{CoreExpr, Node, Relation};
+use td_core::module::Bits;
 
 /// Adds the comparisons that are conjuncts of a condition, which is true, or is false, behind what is known. `AllocError`: there
 /// was no memory for one of them.
@@ -102,4 +105,56 @@ fn learn_comparison<'a>(
 {
     known.push(compared(relation, left, right))?;
     Ok(())
+}
+
+/// Adds an end of the range of a value in scope, where there is one.
+fn learn_end<'a>(
+    relation: Relation,
+    level: u64,
+    range: ValueRange,
+    end: Option<u64>,
+    known: &mut Vec<Known<'a>>,
+) -> Result<(), AllocError>
+    ensures { OnOk result (IsLearned (end_fact relation level range end) known.old.items known.new.items) }
+{
+    let Some(value) = end else {
+        return Ok(());
+    };
+    let (scalar, most) = (range.scalar, range.most);
+    let name = Side::Name {
+        level,
+        scalar,
+        most,
+    };
+    learn_comparison(relation, name, Side::Number { value, scalar }, known)
+}
+
+/// Adds both ends of the range of a value in scope.
+#[tactic(auto, using(crate::proofs::Cutting::learned_twice))]
+fn learn_value<'a>(
+    level: u64,
+    range: ValueRange,
+    known: &mut Vec<Known<'a>>,
+) -> Result<(), AllocError>
+    ensures { OnOk result (IsLearned (value_facts level range) known.old.items known.new.items) }
+{
+    learn_end(Relation::GreaterEqual, level, range, range.low, known)?;
+    learn_end(Relation::LessEqual, level, range, range.high, known)?;
+    Ok(())
+}
+
+/// Adds what is known of a part of a field by its value, where it is all of the field. `AllocError`: there was no memory for it.
+#[tactic(auto, using(crate::proofs::Cutting::all_known))]
+pub(crate) fn learn_part<'a>(
+    level: u64,
+    range: Option<ValueRange>,
+    bits: Option<Bits>,
+    known: &mut Vec<Known<'a>>,
+) -> Result<(), AllocError>
+    ensures { OnOk result (IsLearned (part_facts level range bits) known.old.items known.new.items) }
+{
+    match (range, bits) {
+        (Some(range), None) => learn_value(level, range, known),
+        _ => Ok(()),
+    }
 }

@@ -13,4 +13,5 @@ pub mod fields;
 pub mod laws;
 pub mod learning;
 pub mod modules;
+pub mod values;
 pub mod walk;

@@ -30,6 +30,7 @@ fn answer(found: Option<Unsafe>) -> Result<(), ArithError>
     match found {
         Some(Unsafe::Operator { span, op }) => Err(ArithError::Unsafe { span, op }),
         Some(Unsafe::Room { span }) => Err(ArithError::Room { span }),
+        Some(Unsafe::Value { span }) => Err(ArithError::Value { span }),
         None => Ok(()),
     }
 }

@@ -10,25 +10,27 @@ ghost use Rattle.td_expr.specs.Range.{narrowed, computed_range, range_of};
 ghost use Rattle.td_expr.specs.Safe.{is_safe, first, first_unsafe, unless_safe};
 ghost use Rattle.td_arith_ranges.specs.Ends.{range_in, spanned};
 ghost use Rattle.td_arith.specs.Known.{facts_in};
+ghost use Rattle.td_arith.specs.SafeModule.{value_range};
 
 use crate::comparisons::Known;
 use crate::expressions::{computed_range, first_of, is_safe, spanned_range, unless, whole_range};
 use crate::facts::narrowed;
 use crate::learning::learn_condition;
 use std::alloc::{AllocError, Global};
-use td_arith_ranges::ends::{Ends, up_to};
+use td_arith_ranges::ends::{Ends, cut, up_to};
 use td_ast::token::Span;
 use td_bigint::whole::Whole;
-use td_core::expressions::{Binary, CoreExpr, Node};
+use td_core::expressions::{Binary, CoreExpr, Node, Relation};
 use td_expr::safety::Unsafe;
+use td_expr::types::{greatest_of, type_of};
 
 // Where a value is let go, each way through its variants is a way through the function. So what has many is let go by a call.
 
 /// What a look at an expression tells: its range, and its first operator that isn't safe.
 #[derive(Drop)]
-struct Seen {
-    ends: Ends,
-    unsafe_at: Option<Unsafe>,
+pub(crate) struct Seen {
+    pub(crate) ends: Ends,
+    pub(crate) unsafe_at: Option<Unsafe>,
 }
 
 /// What a look at an operator that computes tells: the ranges of its operands, and the first operator that isn't safe among
@@ -322,4 +324,23 @@ pub(crate) fn passes<'a>(
     let told = Whole::small(i128::from(most)).is_below(alloc, &size.ends.high);
     drop(size);
     told
+}
+
+/// Between which numbers the value of an expression lies, and its first operator that isn't safe. On `Ok` what is known is as
+/// before.
+pub(crate) fn look_at_value<'a>(
+    alloc: Global,
+    e: &'a CoreExpr,
+    known: &mut Vec<Known<'a>>,
+) -> Result<Seen, AllocError>
+    ensures range { IfOk result (λ s. range_in s.ends ≡ value_range (facts_in known.old.items) e.now) }
+    ensures first { IfOk result (λ s. s.unsafe_at ≡ first_unsafe (facts_in known.old.items) e.now) }
+    ensures same { OnOk result (known.new.items ≡ known.old.items) }
+{
+    let told = look(alloc, e, known)?;
+    let most = greatest_of(type_of(e));
+    Ok(Seen {
+        ends: cut(alloc, Relation::LessEqual, most, told.ends)?,
+        unsafe_at: told.unsafe_at,
+    })
 }

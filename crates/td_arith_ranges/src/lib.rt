@@ -6,3 +6,4 @@
 pub mod ends;
 pub mod relations;
 pub mod same;
+pub mod within;

@@ -1,7 +1,7 @@
 -- Extents of fields (3D manual, "Arrays").
 use Rattle.std.specs.Prelude.{Bool, true, false, Option, Some, None}
 use Rattle.td_ast.specs.declared.fields.ExtentTree.{ExtentTree}
-use Rattle.td_ast.specs.declared.fields.ExtentTree.TheVariants.{Bytes, ByteSize, SingleElement, Zeroterm, Bits}
+use Rattle.td_ast.specs.declared.fields.ExtentTree.TheVariants.{Bytes, ByteSize, SingleElement, Zeroterm, Bits, Given, OfCell}
 
 -- an array, a single element too
 abbrev pub is_array : Option ExtentTree → Bool
@@ -11,3 +11,5 @@ is_array (Some (ByteSize e)) = true
 is_array (Some (SingleElement e)) = true
 is_array (Some (Zeroterm e)) = true
 is_array (Some (Bits n)) = false
+is_array (Some (Given e)) = false
+is_array (Some (OfCell at n)) = false

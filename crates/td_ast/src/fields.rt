@@ -30,7 +30,7 @@ pub struct TypeTree {
     pub kind: TypeKind,
 }
 
-/// What stands after a field's name: an array's size or a bit width.
+/// What stands after a field's name: an array's size, a bit width, or what gives a field without bytes its value.
 #[derive(Drop)]
 pub enum ExtentTree {
     /// `[ e ]`
@@ -43,6 +43,11 @@ pub enum ExtentTree {
     Zeroterm(Expr),
     /// `: NUM`
     Bits(Literal),
+    /// `= e`: the field takes no bytes, and its value is that of the expression. If `e` is the name `bytes_left` alone, its value is
+    /// the number of bytes that are left.
+    Given(Expr),
+    /// `= * NAME`: the field takes no bytes, and its value is what the cell of this name holds. The span is that of the star.
+    OfCell(Span, Name),
 }
 
 /// `type NAME [extent] ["{" expr "}"] [action] ";"`, a field.

@@ -9,7 +9,7 @@ use Rattle.td_elab_rules.specs.declared.breach.Rule.TheVariants as rule
 use Rattle.td_elab_rules.specs.Breach.{rule_words}
 use Rattle.td_front.specs.Lines.{code_of, words_of, rule_code, limit_words, unsafe_words}
 use Rattle.td_front.specs.declared.error.FrontError.{FrontError}
-use Rattle.td_front.specs.declared.error.FrontError.TheVariants.{BadByte, OpenComment, BigNumber, Unexpected, Deep, Limit, Broken, Cycle, ZeroElement, RestNotLast, Unsafe, Room, NoMemory}
+use Rattle.td_front.specs.declared.error.FrontError.TheVariants.{BadByte, OpenComment, BigNumber, Unexpected, Deep, Limit, Broken, Cycle, ZeroElement, RestNotLast, Unsafe, Room, Value, NoMemory}
 
 rule_code_short : (r : Rule) → length (rule_code r) < 8
 rule_code_short rule.Unknown = omega arith
@@ -67,6 +67,7 @@ code_short (ZeroElement span) = omega arith
 code_short (RestNotLast span) = omega arith
 code_short (Unsafe span op) = omega arith
 code_short (Room span) = omega arith
+code_short (Value span) = omega arith
 code_short NoMemory = omega arith
 
 pub words_short : (e : FrontError) → length (words_of e) < 32
@@ -82,4 +83,5 @@ words_short (ZeroElement span) = omega arith
 words_short (RestNotLast span) = omega arith
 words_short (Unsafe span op) = unsafe_short op
 words_short (Room span) = omega arith
+words_short (Value span) = omega arith
 words_short NoMemory = omega arith

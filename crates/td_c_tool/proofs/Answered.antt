@@ -64,6 +64,7 @@ module_cause input (front.ZeroElement span) (inr refused) = refused
 module_cause input (front.RestNotLast span) (inr refused) = refused
 module_cause input (front.Unsafe span op) (inr refused) = refused
 module_cause input (front.Room span) (inr refused) = refused
+module_cause input (front.Value span) (inr refused) = refused
 
 -- the input stands for no module, or there was no memory to look at it
 pub text_refused : {A : Type 0} (Is : Module → A → Type 0) (input : List ℕ) (e : FrontError) (told : InputError) → told ≡ of_module e → (e ≡ front.NoMemory) ⊎ RefusedBy input e

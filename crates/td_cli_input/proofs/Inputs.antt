@@ -96,6 +96,7 @@ module_cause Refuses (front.ZeroElement span) (inr refused) = refused
 module_cause Refuses (front.RestNotLast span) (inr refused) = refused
 module_cause Refuses (front.Unsafe span op) (inr refused) = refused
 module_cause Refuses (front.Room span) (inr refused) = refused
+module_cause Refuses (front.Value span) (inr refused) = refused
 
 -- the same of an error of a job
 pub job_cause : (Refuses : Refusal → Type 0) (e : JobError) → (e ≡ jobs.NoMemory) ⊎ Refuses (BadJob e) → HasCause Refuses (of_job e)

@@ -22,6 +22,7 @@ module_memory (front.ZeroElement span) r is same = absurd (cc (is, same))
 module_memory (front.RestNotLast span) r is same = absurd (cc (is, same))
 module_memory (front.Unsafe span op) r is same = absurd (cc (is, same))
 module_memory (front.Room span) r is same = absurd (cc (is, same))
+module_memory (front.Value span) r is same = absurd (cc (is, same))
 
 -- or of the job
 pub job_memory : (e : JobError) (r : InputError) → r ≡ of_job e → r ≡ NoMemory → e ≡ jobs.NoMemory

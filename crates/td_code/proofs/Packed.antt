@@ -1,5 +1,5 @@
 -- The bytes that the format gives a module's code are its image, and are read as that code.
-use Rattle.std.proofs.Common.{◌≡◌, ℕ, ◌<◌, ◌^◌, List, length, Result, Ok, Err, refl}
+use Rattle.std.proofs.Common.{◌≡◌, ℕ, ◌<◌, ◌^◌, List, length, Result, Ok, Err}
 use Rattle.td_core.specs.declared.module.Module.{Module}
 use Rattle.td_front.specs.Checked.{IsChecked}
 use Rattle.td_front.specs.ModuleText.{IsModuleText}
@@ -12,6 +12,7 @@ use Rattle.td_image.specs.Answer as images
 use Rattle.td_image.specs.Answer.{IsAnswerFor}
 use Rattle.td_image.specs.Image.{image}
 use Rattle.td_image.specs.Laws.{WithinHasImage}
+use Rattle.td_image.proofs.Written.{code_written}
 use Rattle.td_image_fits.specs.Small.{IsSmall}
 use Rattle.td_image_fits.specs.Laws.{ModulesAreSmall, CodeIsWithin}
 use Rattle.td_code.specs.Compile.{IsCodeFor, IsReadAs, IsPacked, IsSpelled}
@@ -31,7 +32,7 @@ module _ (has : WithinHasImage) (within : CodeIsWithin) (c : Parts) (m : Module)
   packed : IsSmall m → IsPacked m bytes
   packed small =
       let own : images.IsWritten c bytes = (has c code (within c m checked small of.written code of.sound), are) in
-      record { code = c; of = of; image_is = own; read_again = λ answer only. read_as c answer of.sound (only c (images.written c, own, refl)) }
+      record { code = c; of = of; image_is = own; read_again = λ answer only. read_as c answer of.sound (only c (images.written c, own, code_written c)) }
 
   pub spelled : IsSpelled m bytes
   spelled = record { code = c; of = of; bytes_are = are; packed = packed }

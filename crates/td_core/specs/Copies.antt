@@ -6,7 +6,9 @@ use Rattle.td_core.specs.Term.{Deed, done, set, keep, fork, answer, give_up}
 use Rattle.td_core.specs.declared.module.Element.{Element}
 use Rattle.td_core.specs.declared.module.Element.TheVariants.{Number, Named}
 use Rattle.td_core.specs.declared.module.Extent.{Extent}
-use Rattle.td_core.specs.declared.module.Extent.TheVariants.{Filling}
+use Rattle.td_core.specs.declared.module.Extent.TheVariants.{Once, Filling, OnceFilling, UpToZero, Given}
+use Rattle.td_core.specs.declared.module.Source.{Source}
+use Rattle.td_core.specs.declared.module.Source.TheVariants.{Expression, Cell as FromCell, Left}
 use Rattle.td_core.specs.declared.module.CopyOut.{CopyOut}
 use Rattle.td_core.specs.declared.module.Buffer.{Buffer}
 use Rattle.td_core.specs.declared.module.Part.{Part}
@@ -65,12 +67,27 @@ NamesCells n (fork e one other then) = NamesCells n one × (NamesCells n other �
 NamesCells n (answer e) = Unit {0}
 NamesCells n give_up = Unit {0}
 
+-- Nor does a number without bytes
+
+abbrev pub IsSourceOwn : ℕ → Source → Type 0
+IsSourceOwn n (Expression span e) = Unit {0}
+IsSourceOwn n (FromCell cell) = cell < n
+IsSourceOwn n Left = Unit {0}
+
+abbrev pub IsExtentOwn : ℕ → Extent → Type 0
+IsExtentOwn n Once = Unit {0}
+IsExtentOwn n (Filling size step) = Unit {0}
+IsExtentOwn n (OnceFilling size step) = Unit {0}
+IsExtentOwn n (UpToZero size) = Unit {0}
+IsExtentOwn n (Given source) = IsSourceOwn n source
+
 -- Definitions
 
 pub record IsFieldCopying (ds : List TypeDef) (d : TypeDef) (f : Field) : Type 0 where
   pub copy : OfSome (IsCopyWhole d f) f.copy
   pub element : IsElementGiven ds d f.element
   pub actions : Each (λ p. OfSome (NamesCells (length d.cells)) p.action) f.parts
+  pub source : IsExtentOwn (length d.cells) f.extent
 
 pub record IsDefinitionCopying (ds : List TypeDef) (d : TypeDef) : Type 0 where
   pub rooms : Each (λ b. (0 < b.room) × (b.room ≤ MOST_ROOM)) d.buffers

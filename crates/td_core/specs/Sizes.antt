@@ -4,7 +4,7 @@ use Rattle.td_num.specs.Numbers.{bytes_in}
 use Rattle.td_core.specs.declared.module.Element.{Element}
 use Rattle.td_core.specs.declared.module.Element.TheVariants.{Number, Listed, Named, Unit as UnitElement, Rest, Zeros}
 use Rattle.td_core.specs.declared.module.Extent.{Extent}
-use Rattle.td_core.specs.declared.module.Extent.TheVariants.{Once, Filling, OnceFilling, UpToZero}
+use Rattle.td_core.specs.declared.module.Extent.TheVariants.{Once, Filling, OnceFilling, UpToZero, Given}
 use Rattle.td_core.specs.declared.module.Field.{Field}
 
 -- a step is an element's size; of a type that is named it may be any
@@ -21,6 +21,7 @@ HasSteps element Once = Unit {0}
 HasSteps element (Filling size step) = IsStepOf element step
 HasSteps element (OnceFilling size step) = IsStepOf element step
 HasSteps element (UpToZero size) = Unit {0}
+HasSteps element (Given source) = Unit {0}
 
 abbrev pub IsFieldStepped : Field → Type 0
 IsFieldStepped f = HasSteps f.element f.extent

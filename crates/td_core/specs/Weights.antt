@@ -6,7 +6,9 @@ use Rattle.td_core.specs.Term.{Term, measure, Deed, done, set, keep, fork, answe
 use Rattle.td_core.specs.declared.module.Element.{Element}
 use Rattle.td_core.specs.declared.module.Element.TheVariants.{Number, Listed, Named, Unit as UnitElement, Rest, Zeros}
 use Rattle.td_core.specs.declared.module.Extent.{Extent}
-use Rattle.td_core.specs.declared.module.Extent.TheVariants.{Once, Filling, OnceFilling, UpToZero}
+use Rattle.td_core.specs.declared.module.Extent.TheVariants.{Once, Filling, OnceFilling, UpToZero, Given}
+use Rattle.td_core.specs.declared.module.Source.{Source}
+use Rattle.td_core.specs.declared.module.Source.TheVariants.{Expression, Cell as FromCell, Left}
 use Rattle.td_core.specs.declared.module.Part.{Part}
 use Rattle.td_core.specs.declared.module.Field.{Field}
 use Rattle.td_core.specs.declared.module.Case.{Case}
@@ -45,11 +47,18 @@ element_nodes UnitElement = 0
 element_nodes Rest = 0
 element_nodes Zeros = 0
 
+-- `bytes_left` is the node that the name is in the text
+abbrev pub source_nodes : Source → ℕ
+source_nodes (Expression span e) = measure e
+source_nodes (FromCell cell) = 0
+source_nodes Left = 1
+
 abbrev pub extent_nodes : Extent → ℕ
 extent_nodes Once = 0
 extent_nodes (Filling size step) = measure size
 extent_nodes (OnceFilling size step) = measure size
 extent_nodes (UpToZero size) = measure size
+extent_nodes (Given source) = source_nodes source
 
 abbrev pub part_nodes : Part → ℕ
 part_nodes p = option_nodes p.refinement + action_nodes p.action
@@ -121,6 +130,7 @@ as_array Once weight = weight
 as_array (Filling size step) weight = 2 * weight + 64
 as_array (OnceFilling size step) weight = 2 * weight + 64
 as_array (UpToZero size) weight = 2 * weight + 64
+as_array (Given source) weight = weight
 
 -- 32 for each part, 8 for each node, and the definition that it names; an array twice that and 64
 abbrev pub field_weight : (ℕ → ℕ) → Field → ℕ

@@ -10,7 +10,9 @@ use Rattle.td_core.specs.declared.module.NameId.{NameId}
 use Rattle.td_core.specs.declared.module.Element.{Element}
 use Rattle.td_core.specs.declared.module.Element.TheVariants.{Number, Listed, Named, Unit as UnitElement, Rest, Zeros}
 use Rattle.td_core.specs.declared.module.Extent.{Extent}
-use Rattle.td_core.specs.declared.module.Extent.TheVariants.{Once, Filling, OnceFilling, UpToZero}
+use Rattle.td_core.specs.declared.module.Extent.TheVariants.{Once, Filling, OnceFilling, UpToZero, Given}
+use Rattle.td_core.specs.declared.module.Source.{Source}
+use Rattle.td_core.specs.declared.module.Source.TheVariants.{Expression, Cell as FromCell, Left}
 use Rattle.td_core.specs.declared.module.Bits.{Bits}
 use Rattle.td_core.specs.declared.module.Part.{Part}
 use Rattle.td_core.specs.declared.module.Field.{Field}
@@ -74,12 +76,19 @@ IsElementSorted UnitElement = Unit {0}
 IsElementSorted Rest = Unit {0}
 IsElementSorted Zeros = Unit {0}
 
+-- what a number comes from is a number
+abbrev pub IsSourceSorted : Source → Type 0
+IsSourceSorted (Expression span e) = IsSorted false e
+IsSourceSorted (FromCell cell) = Unit {0}
+IsSourceSorted Left = Unit {0}
+
 -- sizes are numbers
 abbrev pub IsExtentSorted : Extent → Type 0
 IsExtentSorted Once = Unit {0}
 IsExtentSorted (Filling size step) = IsSorted false size
 IsExtentSorted (OnceFilling size step) = IsSorted false size
 IsExtentSorted (UpToZero size) = IsSorted false size
+IsExtentSorted (Given source) = IsSourceSorted source
 
 -- a refinement is a truth value
 abbrev pub IsPartSorted : Part → Type 0
@@ -125,15 +134,17 @@ AreFieldParts element extent (p ∷ ps) = AreParts element extent p.bits ps
 abbrev pub IsRefinable : Element → Extent → Part → Type 0
 IsRefinable (Number type) Once p = Unit {0}
 IsRefinable (Listed base values) Once p = Unit {0}
+IsRefinable (Number type) (Given source) p = Unit {0}
 IsRefinable element extent p = p.refinement ≡ None
 
--- an array up to a zero has numbers alone
-abbrev pub IsZeroEnded : Element → Extent → Type 0
-IsZeroEnded (Number type) extent = Unit {0}
-IsZeroEnded element Once = Unit {0}
-IsZeroEnded element (Filling size step) = Unit {0}
-IsZeroEnded element (OnceFilling size step) = Unit {0}
-IsZeroEnded element (UpToZero size) = ⊥
+-- an array up to a zero has numbers alone, and a field without bytes is one
+abbrev pub IsOfNumbers : Element → Extent → Type 0
+IsOfNumbers (Number type) extent = Unit {0}
+IsOfNumbers element Once = Unit {0}
+IsOfNumbers element (Filling size step) = Unit {0}
+IsOfNumbers element (OnceFilling size step) = Unit {0}
+IsOfNumbers element (UpToZero size) = ⊥
+IsOfNumbers element (Given source) = ⊥
 
 -- an enum's values are in the module
 abbrev pub IsEnumThere : ℕ → Element → Type 0
@@ -148,7 +159,7 @@ IsEnumThere count Zeros = Unit {0}
 pub record IsFieldWhole (count : ℕ) (f : Field) : Type 0 where
   pub parts : AreFieldParts f.element f.extent f.parts
   pub refined : Each (IsRefinable f.element f.extent) f.parts
-  pub ended : IsZeroEnded f.element f.extent
+  pub numbers : IsOfNumbers f.element f.extent
   pub listed : IsEnumThere count f.element
 
 -- each field has at least one part, and each entry point a definition

@@ -3,7 +3,7 @@ use Rattle.std.proofs.Common.{◌≡◌, ℕ, ◌<◌, ◌≤◌, ◌^◌, Bool,
 use Rattle.std.specs.Prelude.{ℤ, pos, ◌-ℤ◌, int_lt}
 use Rattle.std.proofs.lemmas.Bool.{eqb-true, false≢true}
 use Rattle.td_num.proofs.Truths.{both_true}
-use Rattle.td_descr.specs.Imports.{NumberType, Width, One, Two, Four, Eight, ByteOrder, LittleEndian, BigEndian, Equal, NotEqual, Less, LessEqual, Greater, GreaterEqual, Add, Subtract, Multiply, Divide, Remainder, BitAnd, BitOr, BitXor, ShiftLeft, ShiftRight, Element, Extent, Once, Filling, OnceFilling, UpToZero, Bits, Buffer, CopyOut, Part, Field, Param, Cell, Body, Struct, Casetype, TypeDef}
+use Rattle.td_descr.specs.Imports.{NumberType, Width, One, Two, Four, Eight, ByteOrder, LittleEndian, BigEndian, Equal, NotEqual, Less, LessEqual, Greater, GreaterEqual, Add, Subtract, Multiply, Divide, Remainder, BitAnd, BitOr, BitXor, ShiftLeft, ShiftRight, Element, Extent, Once, Filling, OnceFilling, UpToZero, Given, Bits, Buffer, CopyOut, Part, Field, Param, Cell, Body, Struct, Casetype, TypeDef}
 use Rattle.td_core.specs.Term.{Term, number, name, complement, negation, compute, compare, both, either, choice, range_okay, Deed, done, set, keep, fork, answer, give_up}
 use Rattle.td_core.specs.declared.module.Element.TheVariants as element
 use Rattle.td_core.specs.Entries.{definition_at}
@@ -178,6 +178,7 @@ holds_is w width is (element.Number t) Once h =
 holds_is w width is (element.Number t) (Filling size step) h = absurd (false≢true h)
 holds_is w width is (element.Number t) (OnceFilling size step) h = absurd (false≢true h)
 holds_is w width is (element.Number t) (UpToZero size) h = absurd (false≢true h)
+holds_is w width is (element.Number t) (Given source) h = absurd (false≢true h)
 holds_is w width is (element.Listed base values) x h = absurd (false≢true h)
 holds_is w width is (element.Named definition args cells) x h = absurd (false≢true h)
 holds_is w width is element.Unit x h = absurd (false≢true h)

@@ -11,7 +11,7 @@ pub use Rattle.td_core.specs.declared.module.CellKind.TheVariants.{Number, Point
 pub use Rattle.td_core.specs.declared.module.CopyOut.{CopyOut}
 pub use Rattle.td_core.specs.declared.module.Element.{Element}
 pub use Rattle.td_core.specs.declared.module.Extent.{Extent}
-pub use Rattle.td_core.specs.declared.module.Extent.TheVariants.{Filling, Once, OnceFilling, UpToZero}
+pub use Rattle.td_core.specs.declared.module.Extent.TheVariants.{Filling, Given, Once, OnceFilling, UpToZero}
 pub use Rattle.td_core.specs.declared.module.Field.{Field}
 pub use Rattle.td_core.specs.declared.module.Module.{Module}
 pub use Rattle.td_core.specs.declared.module.NameId.{NameId}

@@ -5,13 +5,13 @@ use Rattle.std.proofs.lemmas.Bool.{cases_eq, cases_lt, eq-eqb}
 use Rattle.std.proofs.lemmas.Option.{slice_get-get_or, slice_get_past}
 use Rattle.std.proofs.lemmas.List.{get_or_append_left, get_or_push}
 use Rattle.td_core.specs.Term.{Term, number}
-use Rattle.td_direct.specs.Imports.{Scalar, NameId, Element, Number, Listed, Named, Unit as UnitElement, Rest, Zeros, Extent, Once, Filling, OnceFilling, UpToZero, Part, Field, Struct, TypeDef, Module, Constraint, ListSize}
+use Rattle.td_direct.specs.Imports.{Scalar, NameId, Element, Number, Listed, Named, Unit as UnitElement, Rest, Zeros, Extent, Once, Filling, OnceFilling, UpToZero, Given, Part, Field, Struct, TypeDef, Module, Constraint, ListSize}
 use Rattle.td_core.specs.declared.outcome.Spot.TheVariants.{Where}
 use Rattle.td_core.specs.Outcome.{accepted, after_reading, and_then, within}
 use Rattle.td_expr.specs.Naming.{names, deed_names}
 use Rattle.td_meaning.specs.Naming.{in_option, part_names, parts_name, element_names, extent_names, field_names, fields_name, is_needed}
-use Rattle.td_meaning.specs.Meaning.{demanded, filled, filled_once, divides, equals, field_place, field_number, number_places, first_name, extended}
-use Rattle.td_meaning.specs.Words64.{value_of, is_met, below, body_fields, chosen_meaning, content_meaning, definition_meaning, element_meaning, shape_meaning, parts_meaning, with_part, acted, fields_meaning}
+use Rattle.td_meaning.specs.Meaning.{demanded, filled, filled_once, divides, equals, field_place, number_places, first_name, extended}
+use Rattle.td_meaning.specs.Words64.{value_of, is_met, below, body_fields, chosen_meaning, content_meaning, definition_meaning, element_meaning, shape_meaning, parts_meaning, with_part, acted, field_number, fields_meaning}
 use Rattle.td_direct.specs.Arrays.{once_rest}
 use Rattle.td_direct.specs.Passing.{IsPassed, AreSizes, passes_all, IsShapePassed, ArePlainParts, AreQuiet}
 use Rattle.td_direct.proofs.TypeLemmas.{filled_fit, once_fit, window_pass}
@@ -58,6 +58,7 @@ nothing_read (Number type) Once p = refl
 nothing_read (Number type) (Filling size step) p = refl
 nothing_read (Number type) (OnceFilling size step) p = refl
 nothing_read (Number type) (UpToZero size) p = refl
+nothing_read (Number type) (Given source) p = refl
 nothing_read (Listed base k) extent p = refl
 nothing_read (Named definition args own) extent p = refl
 nothing_read UnitElement extent p = refl
@@ -72,7 +73,7 @@ fields_pass m bound ty (f ∷ later) env places b end p size cells h room =
     let rest = h.rest in
     let q = h.one in
     let sum = h.is in
-    let n = field_number f.element f.extent b p in
+    let n = field_number f.element f.extent env places b end p cells in
     let senses = below m.listed m.definitions bound in
     let fits : p + first ≤ end = omega (arith, room, sum) in
     let left : p + first + rest ≤ end = omega (arith, room, sum) in

@@ -25,5 +25,6 @@ pub(crate) fn copied_in(field: &Field) -> Option<Copied<'_>>
         Extent::Once => None,
         Extent::OnceFilling { .. } => None,
         Extent::UpToZero { .. } => None,
+        Extent::Given(_) => None,
     }
 }

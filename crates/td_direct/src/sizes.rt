@@ -50,6 +50,7 @@ fn passed_shape(types: &Types, bound: usize, element: &Element, extent: &Extent)
             }
         }
         Extent::UpToZero { .. } => None,
+        Extent::Given(_) => None,
     }
 }
 

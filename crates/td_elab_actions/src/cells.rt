@@ -52,7 +52,7 @@ fn slot_at(first: u32, slots: &[Slot], name: &[u8]) -> Result<Target, AllocError
 
 /// `p->f`: the cell for the slot of that name of the output record that p names. `AllocError`: there are 2^32 cells or
 /// more.
-pub fn row_cell(known: &Known, found: Found, name: &[u8]) -> Result<Target, AllocError>
+pub(crate) fn row_cell(known: &Known, found: Found, name: &[u8]) -> Result<Target, AllocError>
     ensures cell { IfOk result (λ t. t ≡ row_cell known.now found name.now) }
     ensures full { OnErr result (IsRowPast known.now found) }
 {
@@ -80,7 +80,7 @@ pub fn check_target(target: Target, at: Span, findings: &mut Findings)
 }
 
 /// A pointer that is read, by its `*`.
-pub(crate) fn check_read(target: Target, star: Span, findings: &mut Findings)
+pub fn check_read(target: Target, star: Span, findings: &mut Findings)
     ensures { findings.new.first ≡ first_of findings.old.first (read_breaches target star) }
 {
     match target {

@@ -4,7 +4,7 @@
 #![tactic(auto)]
 
 pub mod actions;
-mod cells;
+pub mod cells;
 mod pieces;
 pub mod scopes;
 mod steps;

@@ -1,16 +1,19 @@
-//! What stands after a field's name: an array's size, or a width of bits.
+//! What stands after a field's name: an array's size, a width of bits, or what gives a field without bytes its value.
 
 ghost use Rattle.std.specs.Prelude.{◌≡◌, ◌≤◌, IfOk, OnErr, OnOk, IfSome};
 ghost use Rattle.td_elab_rules.specs.Breach.{first_of};
 ghost use Rattle.td_elab_rules.specs.Extents.{zero_ended, bits_in, is_width, extent_breaches, extent_core, allowed, bit_width};
 ghost use Rattle.td_elab_fields.specs.Memory.{HasSizeOperator};
 
+use crate::given::{check_held, element_number, given_extent, held_source, tree_source};
 use std::alloc::{AllocError, Global};
 use td_ast::fields::{ExtentTree, TypeTree};
 use td_core::expressions::CoreExpr;
 use td_core::module::{Element, Extent};
+use td_elab_actions::cells::cell_of;
 use td_elab_exprs::expressions::number;
 use td_elab_exprs::findings::Findings;
+use td_elab_exprs::look_up::look_up;
 use td_elab_rules::breach::Rule;
 use td_elab_rules::known::{Known, Scope};
 use td_elab_types::types::{is_byte, number_type};
@@ -44,8 +47,8 @@ fn zero_ended(element: &Element, size: CoreExpr) -> Extent
     }
 }
 
-/// How often an element of a type stands there; the breaches are noted. `AllocError`: it is an array whose size has an
-/// operator or is `is_range_okay`, and out of memory.
+/// How often an element of a type stands there; the breaches are noted. `AllocError`: an array's size or a value that is given
+/// has an operator or is `is_range_okay`, and out of memory.
 #[tactic(auto, using(td_elab_exprs::proofs::Steps::first_append))]
 pub fn extent(
     alloc: Global,
@@ -91,6 +94,20 @@ pub fn extent(
             findings.note_if(base.is_none(), Rule::Mismatch, tree.span);
             findings.note_if(!is_width(base, n.value), Rule::NotConstant, n.span);
             Ok(Extent::Once)
+        }
+        Some(ExtentTree::Given(e)) => {
+            let base = number_type(known, scope, tree);
+            findings.note_if(base.is_none(), Rule::Mismatch, tree.span);
+            let own = element_number(element);
+            let source = tree_source(alloc, known, scope, base, own, e, findings)?;
+            Ok(given_extent(source))
+        }
+        Some(ExtentTree::OfCell(star, p)) => {
+            let base = number_type(known, scope, tree);
+            findings.note_if(base.is_none(), Rule::Mismatch, tree.span);
+            let target = cell_of(look_up(known, scope, p.text.as_slice()));
+            check_held(base, target, *star, p.span, findings);
+            Ok(given_extent(held_source(element_number(element), target)))
         }
     }
 }

@@ -45,7 +45,7 @@ fn is_array(extent: &Option<ExtentTree>) -> bool
     ensures { result ≡ is_array extent.now }
 {
     match extent {
-        None | Some(ExtentTree::Bits(_)) => false,
+        None | Some(ExtentTree::Bits(_) | ExtentTree::Given(_) | ExtentTree::OfCell(_, _)) => false,
         Some(_) => true,
     }
 }

@@ -3,7 +3,7 @@
 ghost use Rattle.std.specs.Prelude.{◌≡◌, ◌<◌, ◌≤◌, ◌+◌, ◌^◌, None, Some, IfOk, OnErr, OnOk, length};
 ghost use Rattle.td_elab_rules.specs.Sorts.{size_found};
 ghost use Rattle.td_elab_rules.specs.Types.{number_type, is_byte};
-ghost use Rattle.td_elab_rules.specs.Leading.{holds_this, array_size, kind_size, names_type, sized, unit_size, bits_size, leading_field, leading_size};
+ghost use Rattle.td_elab_rules.specs.Leading.{holds_this, array_size, kind_size, names_type, sized, unit_size, bits_size, given_size, leading_field, leading_size};
 ghost use Rattle.td_kinds.specs.declared.sizes.TheConstants.{SIZE_CAP};
 ghost use Rattle.td_kinds.specs.Kinds.{up_to};
 ghost use Rattle.td_elab_exprs.specs.Memory.{HasOperator};
@@ -146,6 +146,16 @@ fn bits_size(
     }
 }
 
+/// A value that is given, which takes no bytes.
+fn given_size(base: Option<NumberType>) -> Option<(u64, Option<UnitRoom>)>
+    ensures { result ≡ given_size base }
+{
+    match base {
+        Some(_) => sized(Some(0)),
+        None => None,
+    }
+}
+
 /// A leading field, after a unit. `AllocError`: out of memory.
 fn leading_field(
     alloc: Global,
@@ -176,6 +186,9 @@ fn leading_field(
             let base = number_type(known, scope, &tree.type_tree);
             let width = bit_width(known, scope, &tree.type_tree, &tree.extent);
             Ok(bits_size(room, base, width))
+        }
+        Some(ExtentTree::Given(_) | ExtentTree::OfCell(_, _)) => {
+            Ok(given_size(number_type(known, scope, &tree.type_tree)))
         }
     }
 }

@@ -8,4 +8,5 @@ mod bit_fields;
 mod copies;
 pub mod fields;
 mod flat;
+mod given;
 pub mod leading;

@@ -17,7 +17,7 @@ use Rattle.td_core.specs.Term.{Term, Deed}
 use Rattle.td_core.specs.declared.module.Element.TheVariants as element
 use Rattle.td_core.specs.Formed.{Bound, cell_bound, IsActionFormed}
 use Rattle.td_core.specs.WellFormed.{OfSome}
-use Rattle.td_core.specs.Copies.{IsCopied, IsBufferCell, IsCopyWhole, AreBuffersGiven, AreOwnGiven, IsElementGiven, NamesCells, IsFieldCopying}
+use Rattle.td_core.specs.Copies.{IsCopied, IsBufferCell, IsCopyWhole, AreBuffersGiven, AreOwnGiven, IsElementGiven, IsSourceOwn, IsExtentOwn, NamesCells, IsFieldCopying}
 use Rattle.td_elab_rules.specs.declared.fields.Readable.{Readable}
 use Rattle.td_elab_rules.specs.declared.fields.FlatField.{FlatField}
 use Rattle.td_elab_rules.specs.declared.fields.OpenUnit.{OpenUnit}
@@ -28,15 +28,17 @@ use Rattle.td_elab_rules.specs.declared.known.Found.TheVariants as found
 use Rattle.td_elab_rules.specs.declared.known.Known.{Known}
 use Rattle.td_elab_rules.specs.declared.known.Scope.{Scope}
 use Rattle.td_elab_rules.specs.Known.{found_in, signature_at}
-use Rattle.td_elab_rules.specs.Sorts.{option_core}
-use Rattle.td_elab_rules.specs.Actions.{action_core}
+use Rattle.td_elab_rules.specs.Sorts.{core_of, option_core}
+use Rattle.td_elab_rules.specs.Actions.{stored_cell, action_core}
+use Rattle.td_elab_rules.specs.Given.{tree_source, held_source}
 use Rattle.td_elab_rules.specs.Types.{same_number, number_found, number_of_kind, number_type, is_byte, args_core, args_cells, args_buffers, is_kind, fits_params, fits_cells, has_room, fits_buffers, buffer_cells, fits, applied, found_element, kind_element, element_of}
-use Rattle.td_elab_rules.specs.Extents.{extent_core, bit_width}
+use Rattle.td_elab_rules.specs.Extents.{zero_ended, extent_core, bit_width}
 use Rattle.td_elab_rules.specs.Copies.{are_bytes, copy_to, found_copy, copied_core}
 use Rattle.td_elab_rules.specs.BitFields.{part_of, whole_field, new_unit, more_bits, unit_field}
 use Rattle.td_elab_rules.specs.Fields.{base_of, readable_base, readable_of, with_field, refinement_core, flat_of, flats_of, fields_core}
-use Rattle.td_elab_rules.proofs.Scopes.{bounds_of, IsScope}
-use Rattle.td_elab_rules.proofs.DeedsFormed.{action_formed, action_named}
+use Rattle.td_elab_rules.proofs.Scopes.{bounds_of, IsScope, found_there}
+use Rattle.td_elab_rules.proofs.DeedsFormed.{cell_there, action_formed, action_named}
+use Rattle.td_elab_rules.proofs.Given.{given_case, tree_own, held_own}
 use Rattle.td_elab_rules.proofs.OwnFormed.{room_there}
 use Rattle.td_elab_rules.proofs.FieldsFormed.{field_scope, field_bound, readable_cells, readable_buffers}
 use Rattle.td_elab_rules.proofs.Whole.{gathered_each}
@@ -146,6 +148,8 @@ bytes_copied k s t (Some (after.ByteSize z)) name base e h =
 bytes_copied k s t (Some (after.SingleElement z)) name base e h = absurd (false≢true h)
 bytes_copied k s t (Some (after.Zeroterm z)) name base e h = absurd (false≢true h)
 bytes_copied k s t (Some (after.Bits n)) name base e h = absurd (false≢true h)
+bytes_copied k s t (Some (after.Given z)) name base e h = absurd (false≢true h)
+bytes_copied k s t (Some (after.OfCell star p)) name base e h = absurd (false≢true h)
 
 -- Fields
 
@@ -205,9 +209,33 @@ module _ (all : List TypeDef) (k : Known) (same : (j : ℕ) (d : TypeDef) → sl
   copy_whole u at (found.Local (local.Row i r)) x h c = tt
   copy_whole u at (found.Global m) x h c = tt
 
+  -- what gives a value is no cell of a copy buffer
+  zero_own : (x : Element) (e : Term) → IsExtentOwn (length d.cells) (zero_ended x e)
+  zero_own (element.Number t) e = tt
+  zero_own (element.Listed t v) e = tt
+  zero_own (element.Named j es cells) e = tt
+  zero_own element.Unit e = tt
+  zero_own element.Rest e = tt
+  zero_own element.Zeros e = tt
+
+  extent_own : (bounds : List Bound) (s : Scope) (e : Element) (x : Option ExtentTree) → IsScope k bounds s → IsScopeOf d s → IsExtentOwn (length d.cells) (extent_core k s e x)
+  extent_own bounds s e None g h = tt
+  extent_own bounds s e (Some (after.Bytes z)) g h = tt
+  extent_own bounds s e (Some (after.ByteSize z)) g h = tt
+  extent_own bounds s e (Some (after.SingleElement z)) g h = tt
+  extent_own bounds s e (Some (after.Zeroterm z)) g h = zero_own e (core_of k s z)
+  extent_own bounds s e (Some (after.Bits n)) g h = tt
+  extent_own bounds s e (Some (after.Given z)) g h =
+      given_case (λ y x. IsExtentOwn (length d.cells) x) (λ o. tree_source k s o z) refl (λ t x q u. tree_own (length d.cells) k s z t x q) e tt
+  extent_own bounds s e (Some (after.OfCell star p)) g h =
+      given_case (λ y x. IsExtentOwn (length d.cells) x) (λ o. held_source o (stored_cell k s p)) refl
+      (λ t x q u. subst (λ n. IsSourceOwn n x) (length-map s.cells cell_bound ∙ h.cells)
+      (held_own (bounds_of s.cells) (stored_cell k s p) (cell_there k bounds (bounds_of s.cells) (found_in k s p.text) (found_there k bounds s p.text g)) t x q)) e tt
+
   record IsFlatCopying (x : FlatField) : Type 0 where
     copy : OfSome (IsCopyWhole d (whole_field x)) x.copy
     element : IsElementGiven all d x.element
+    source : IsExtentOwn (length d.cells) x.extent
     action : OfSome (NamesCells (length d.cells)) x.action
 
   abbrev AreNaming : List Part → Type 0
@@ -236,6 +264,7 @@ module _ (all : List TypeDef) (k : Known) (same : (j : ℕ) (d : TypeDef) → sl
       record {
         copy = copies_whole names s f f.action h;
         element = kind_given s f.type_tree.kind h;
+        source = extent_own bounds s (element_of k s f.type_tree) f.extent g h;
         action =
             subst (λ n. OfSome (NamesCells n) (action_core k u f.action)) (length-map u.cells cell_bound ∙ o.cells)
             (action_named (bounds_of u.cells) more (action_core k u f.action) (action_formed k more u f.action (field_scope k bounds s f g)));
@@ -251,7 +280,7 @@ module _ (all : List TypeDef) (k : Known) (same : (j : ℕ) (d : TypeDef) → sl
   pub fields_copying : (names : List (List ℕ)) (bounds : List Bound) (s : Scope) (fs : List FieldTree) → IsScope k bounds s → IsScopeOf d s → Each (IsFieldCopying all d) (fields_core names k s fs)
   fields_copying names bounds s fs g h =
       gathered_each (IsFieldCopying all d) IsFlatCopying (λ u. AreNaming u.parts)
-      (λ x q. record { copy = q.copy; element = q.element; actions = (q.action, tt) }) (λ x t w q e. (q.action, tt))
+      (λ x q. record { copy = q.copy; element = q.element; source = q.source; actions = (q.action, tt) }) (λ x t w q e. (q.action, tt))
       (λ u x t w p q e f. each_append (λ p. OfSome (NamesCells (length d.cells)) p.action) u.parts _ p (q.action, tt))
-      (λ u p. record { copy = tt; element = tt; actions = p })
+      (λ u p. record { copy = tt; element = tt; source = tt; actions = p })
       (flats_of names k s fs) None tt (flats_copying names bounds s fs g h)

@@ -24,13 +24,14 @@ use Rattle.td_elab_rules.specs.Actions.{cell_of, slot_cell, slot_at, row_cell, s
 use Rattle.td_elab_rules.proofs.Scopes.{bounds_of, slot_bound, IsRowThere, get_more, IsScope, IsFoundThere, found_there, local_scope, value_scope, inside_scope, whole_small, whole_pos, core_scoped, start_scoped, start_type}
 use Rattle.td_expr.proofs.Widths.{limit_pos, wide_enough}
 
-abbrev IsTargetThere : List Bound → Target → Type 0
+-- what `*p` names is a cell that holds what it should
+abbrev pub IsTargetThere : List Bound → Target → Type 0
 IsTargetThere cells target.Unknown = Unit {0}
 IsTargetThere cells target.NoCell = Unit {0}
 IsTargetThere cells (target.Number c t) = slice_get cells c ≡ Some (whole (scalar_of t.width))
 IsTargetThere cells (target.Pointer c) = slice_get cells c ≡ Some (whole ThirtyTwo)
 
-cell_there : (k : Known) (bounds cells : List Bound) (f : Found) → IsFoundThere k bounds cells f → IsTargetThere cells (cell_of f)
+pub cell_there : (k : Known) (bounds cells : List Bound) (f : Found) → IsFoundThere k bounds cells f → IsTargetThere cells (cell_of f)
 cell_there k bounds cells found.Nothing h = tt
 cell_there k bounds cells (found.Local (local.Cell c (cell.Number t))) h = h
 cell_there k bounds cells (found.Local (local.Cell c cell.Pointer)) h = h

@@ -1,12 +1,11 @@
 -- Core fields are formed.
-use Rattle.std.proofs.Common.{◌≡◌, ℕ, zero, suc, ◌+◌, ◌-◌, ◌*◌, ◌^◌, ◌<◌, ◌≤◌, Bool, true, false, cond, ◌&&◌, List, [], ◌∷◌, ◌++◌, length, map, refl, sym, ap, ◌∙◌, subst, arith, Option, Some, None, slice_get, nat_le, nat_lt, nat_eq}
+use Rattle.std.proofs.Common.{◌≡◌, ℕ, ◌+◌, ◌-◌, ◌*◌, ◌^◌, ◌<◌, ◌≤◌, Bool, true, false, cond, ◌&&◌, List, [], ◌∷◌, ◌++◌, length, refl, sym, ap, ◌∙◌, subst, arith, Option, Some, None, slice_get, nat_le, nat_lt, nat_eq}
 use Rattle.std.proofs.Math.Nat.{pow-le-pow_right}
 use Rattle.std.proofs.lemmas.Bool.{leb-true, ltb-true, and_parts, false≢true}
 use Rattle.std.proofs.lemmas.Nat.{pow_pos}
-use Rattle.std.proofs.lemmas.Option.{none-some, same_Some, slice_get_within}
+use Rattle.std.proofs.lemmas.Option.{slice_get_within}
 use Rattle.td_num.specs.Numbers.{bytes_in}
-use Rattle.td_elab_rules.specs.Imports.{Width, NumberType, Span, TypeKind, TypeTree, ExtentTree, FieldTree, ActionTree, NameId, Element, Extent, Once, Filling, OnceFilling, UpToZero, CopyOut, Bits, Param, CellKind, Number as NumberCell, Pointer as PointerCell, Cell, Part, Field, TypeDef}
-use Rattle.td_num.specs.declared.number.Width.TheVariants.{One, Two, Four, Eight}
+use Rattle.td_elab_rules.specs.Imports.{Width, NumberType, Span, Name, ThirtyTwo, TypeKind, TypeTree, ExtentTree, FieldTree, ActionTree, NameId, Element, Extent, Once, Filling, OnceFilling, UpToZero, Given, CopyOut, Param, Part, Field, TypeDef}
 use Rattle.td_ast.specs.Extents.{is_array}
 use Rattle.td_ast.specs.declared.fields.TypeKind.TheVariants as type
 use Rattle.td_ast.specs.declared.fields.ExtentTree.TheVariants as after
@@ -14,10 +13,12 @@ use Rattle.td_ast.specs.Trees.{Tree}
 use Rattle.td_core.specs.Term.{Term, Deed}
 use Rattle.td_core.specs.declared.module.Element.TheVariants as element
 use Rattle.td_core.specs.Types.{bits, limit, type_of}
-use Rattle.td_core.specs.Formed.{Bound, scalar_of, whole, cell_bound, param_bounds, cell_bounds, bits_bound, part_bound, parts_scope, IsScoped, IsOptionScoped, IsActionFormed, ArePartsFormed, AreArgsFormed, AreCellsFormed, params_at, own_at, IsElementFormed, IsExtentFormed, AreFieldsFormed}
+use Rattle.td_core.specs.Formed.{Bound, scalar_of, whole, param_bounds, bits_bound, part_bound, parts_scope, IsScoped, IsOptionScoped, IsActionFormed, ArePartsFormed, AreArgsFormed, AreCellsFormed, params_at, own_at, IsElementFormed, IsExtentFormed, AreFieldsFormed}
 use Rattle.td_elab_rules.specs.declared.fields.Readable.{Readable}
 use Rattle.td_elab_rules.specs.declared.fields.FlatField.{FlatField}
 use Rattle.td_elab_rules.specs.declared.fields.OpenUnit.{OpenUnit}
+use Rattle.td_elab_rules.specs.declared.actions.Target.{Target}
+use Rattle.td_elab_rules.specs.declared.actions.Target.TheVariants as target
 use Rattle.td_elab_rules.specs.declared.known.Parameter.{Parameter}
 use Rattle.td_elab_rules.specs.declared.known.Parameter.TheVariants.{Value, Cells, Buffer as BufferOf}
 use Rattle.td_elab_rules.specs.declared.known.Meaning.TheVariants as meaning
@@ -28,14 +29,16 @@ use Rattle.td_elab_rules.specs.declared.known.Known.{Known}
 use Rattle.td_elab_rules.specs.declared.known.Scope.{Scope}
 use Rattle.td_elab_rules.specs.Known.{found_in, signature_at}
 use Rattle.td_elab_rules.specs.Sorts.{core_of, option_core}
-use Rattle.td_elab_rules.specs.Actions.{action_core}
+use Rattle.td_elab_rules.specs.Actions.{stored_cell, action_core}
+use Rattle.td_elab_rules.specs.Given.{tree_source, held_source}
 use Rattle.td_elab_rules.specs.Types.{same_number, number_found, number_of_kind, args_core, args_cells, args_buffers, fits_params, fits_cells, fits_buffers, fits, buffer_cells, applied, found_element, kind_element, element_of}
 use Rattle.td_elab_rules.specs.Extents.{is_width, zero_ended, extent_core, allowed, bit_width}
 use Rattle.td_elab_rules.specs.BitFields.{fits_room, unit_bits, part_of, whole_field, new_unit, more_bits, room_of, grown, closed, gathered}
 use Rattle.td_elab_rules.specs.Fields.{found_base, base_of, readable_bits, readable_base, readable_of, with_readable, with_field, refinement_core, flat_of, flats_of, fields_core}
-use Rattle.td_elab_rules.proofs.Scopes.{bounds_of, room_bounds, own_of, IsScope, level_scope, value_scope, whole_small, whole_pos, core_scoped, option_scoped}
-use Rattle.td_elab_rules.proofs.DeedsFormed.{action_formed, action_more}
+use Rattle.td_elab_rules.proofs.Scopes.{bounds_of, room_bounds, own_of, IsScope, get_more, found_there, level_scope, value_scope, whole_small, whole_pos, core_scoped, option_scoped}
+use Rattle.td_elab_rules.proofs.DeedsFormed.{IsTargetThere, cell_there, action_formed, action_more}
 use Rattle.td_elab_rules.proofs.OwnFormed.{own_formed, width_same}
+use Rattle.td_elab_rules.proofs.Given.{given_case, tree_formed, held_formed}
 use Rattle.td_expr.proofs.Widths.{limit_of_bytes as limit_is, limit_pos, wide_enough}
 
 -- Types with arguments
@@ -143,6 +146,10 @@ extent_readable k s t (Some (after.ByteSize e)) = tt
 extent_readable k s t (Some (after.SingleElement e)) = tt
 extent_readable k s t (Some (after.Zeroterm e)) = tt
 extent_readable k s t (Some (after.Bits n)) = kind_bits k s t.kind n.value
+extent_readable k s t (Some (after.Given e)) =
+    given_case (λ y x. IsReadable (bit_bound y x None) (readable_base (base_of k s t.kind) None)) (λ o. tree_source k s o e) refl (λ u x q h. h) (element_of k s t) (kind_once k s t.kind)
+extent_readable k s t (Some (after.OfCell star p)) =
+    given_case (λ y x. IsReadable (bit_bound y x None) (readable_base (base_of k s t.kind) None)) (λ o. held_source o (stored_cell k s p)) refl (λ u x q h. h) (element_of k s t) (kind_once k s t.kind)
 
 -- what a field brings
 abbrev pub field_bound : Known → Scope → FieldTree → Bound
@@ -173,31 +180,53 @@ extent_once k s e t (Some (after.ByteSize size)) = tt
 extent_once k s e t (Some (after.SingleElement size)) = tt
 extent_once k s e t (Some (after.Zeroterm size)) = tt
 extent_once k s e t (Some (after.Bits n)) = once_if (bit_width k s t (Some (after.Bits n)))
+extent_once k s e t (Some (after.Given z)) = tt
+extent_once k s e t (Some (after.OfCell star p)) = tt
 
-zero_formed : (bounds : List Bound) (x : Element) (e : Term) → IsScoped bounds e → IsExtentFormed bounds (zero_ended x e)
-zero_formed bounds (element.Number t) e h = h
-zero_formed bounds (element.Listed t v) e h = tt
-zero_formed bounds (element.Named j es cells) e h = tt
-zero_formed bounds element.Unit e h = tt
-zero_formed bounds element.Rest e h = tt
-zero_formed bounds element.Zeros e h = tt
+zero_formed : (cells bounds : List Bound) (x : Element) (e : Term) → IsScoped bounds e → IsExtentFormed cells bounds x (zero_ended x e)
+zero_formed cells bounds (element.Number t) e h = h
+zero_formed cells bounds (element.Listed t v) e h = tt
+zero_formed cells bounds (element.Named j es own) e h = tt
+zero_formed cells bounds element.Unit e h = tt
+zero_formed cells bounds element.Rest e h = tt
+zero_formed cells bounds element.Zeros e h = tt
 
-extent_formed : (k : Known) (bounds : List Bound) (s : Scope) (e : Element) (x : Option ExtentTree) → IsScope k bounds s → IsExtentFormed bounds (extent_core k s e x)
+target_more : (cells more : List Bound) (c : Target) → IsTargetThere cells c → IsTargetThere (cells ++ more) c
+target_more cells more target.Unknown h = tt
+target_more cells more target.NoCell h = tt
+target_more cells more (target.Number c t) h = get_more cells more c (whole (scalar_of t.width)) h
+target_more cells more (target.Pointer c) h = get_more cells more c (whole ThirtyTwo) h
+
+-- `*p` is a cell of the definition
+stored_there : (k : Known) (bounds : List Bound) (s : Scope) (p : Name) → IsScope k bounds s → IsTargetThere (own_of s) (stored_cell k s p)
+stored_there k bounds s p h =
+    target_more (bounds_of s.cells) (room_bounds s.buffers) (stored_cell k s p)
+    (cell_there k bounds (bounds_of s.cells) (found_in k s p.text) (found_there k bounds s p.text h))
+
+extent_formed : (k : Known) (bounds : List Bound) (s : Scope) (e : Element) (x : Option ExtentTree) → IsScope k bounds s → IsExtentFormed (own_of s) bounds e (extent_core k s e x)
 extent_formed k bounds s e None h = tt
 extent_formed k bounds s e (Some (after.Bytes size)) h = core_scoped k bounds s size h
 extent_formed k bounds s e (Some (after.ByteSize size)) h = core_scoped k bounds s size h
 extent_formed k bounds s e (Some (after.SingleElement size)) h = core_scoped k bounds s size h
-extent_formed k bounds s e (Some (after.Zeroterm size)) h = zero_formed bounds e (core_of k s size) (core_scoped k bounds s size h)
+extent_formed k bounds s e (Some (after.Zeroterm size)) h = zero_formed (own_of s) bounds e (core_of k s size) (core_scoped k bounds s size h)
 extent_formed k bounds s e (Some (after.Bits n)) h = tt
+extent_formed k bounds s e (Some (after.Given z)) h =
+    given_case (λ y x. IsExtentFormed (own_of s) bounds y x) (λ o. tree_source k s o z) refl
+    (λ t x q u. tree_formed k (own_of s) bounds s z h t x q) e tt
+extent_formed k bounds s e (Some (after.OfCell star p)) h =
+    given_case (λ y x. IsExtentFormed (own_of s) bounds y x) (λ o. held_source o (stored_cell k s p)) refl
+    (λ t x q u. held_formed (own_of s) bounds (stored_cell k s p) (stored_there k bounds s p h) t x q) e tt
 
-abbrev IsArray : Extent → Type 0
-IsArray Once = ⊥
-IsArray (Filling z step) = Unit {0}
-IsArray (OnceFilling z step) = Unit {0}
-IsArray (UpToZero z) = Unit {0}
+-- all but what stands once
+abbrev IsOther : Extent → Type 0
+IsOther Once = ⊥
+IsOther (Filling z step) = Unit {0}
+IsOther (OnceFilling z step) = Unit {0}
+IsOther (UpToZero z) = Unit {0}
+IsOther (Given source) = Unit {0}
 
-not_once : (x : Extent) → x ≡ Once → IsArray x → ⊥
-not_once x e h = subst IsArray e h
+not_once : (x : Extent) → x ≡ Once → IsOther x → ⊥
+not_once x e h = subst IsOther e h
 
 refinement_scoped : (bounds : List Bound) (v : Option Readable) (e : Option Term) → IsOptionScoped bounds e → IsOptionScoped bounds (refinement_core v e)
 refinement_scoped bounds None e h = tt
@@ -262,7 +291,7 @@ module _ (all : List TypeDef) (k : Known) (same : (j : ℕ) (d : TypeDef) → sl
   -- a field before it is gathered, and those after it
   abbrev IsFlatFormed : List Bound → List Bound → FlatField → Type 0
   IsFlatFormed cells scope x =
-      IsElementFormed all n cells scope x.element × (IsExtentFormed scope x.extent × (IsOnceIf x.width x.extent
+      IsElementFormed all n cells scope x.element × (IsExtentFormed cells scope x.element x.extent × (IsOnceIf x.width x.extent
       × (IsOptionScoped (scope ++ bit_bound x.element x.extent x.width ∷ []) x.refinement
       × IsActionFormed cells (scope ++ bit_bound x.element x.extent x.width ∷ []) x.action)))
 
@@ -381,6 +410,7 @@ module _ (all : List TypeDef) (k : Known) (same : (j : ℕ) (d : TypeDef) → sl
       by (element.Number t) (Filling z step) copy (Some w) m refinement action place h later rest = absurd (not_once (Filling z step) h.1.1.0 tt)
       by (element.Number t) (OnceFilling z step) copy (Some w) m refinement action place h later rest = absurd (not_once (OnceFilling z step) h.1.1.0 tt)
       by (element.Number t) (UpToZero z) copy (Some w) m refinement action place h later rest = absurd (not_once (UpToZero z) h.1.1.0 tt)
+      by (element.Number t) (Given source) copy (Some w) m refinement action place h later rest = absurd (not_once (Given source) h.1.1.0 tt)
       by (element.Listed t v) extent copy width m refinement action place h later rest = plain (record { element = element.Listed t v; extent = extent; copy = copy; width = width; name = m; refinement = refinement; action = action; place = place }) refl h later rest
       by (element.Named j args own) extent copy width m refinement action place h later rest = plain (record { element = element.Named j args own; extent = extent; copy = copy; width = width; name = m; refinement = refinement; action = action; place = place }) refl h later rest
       by element.Unit extent copy width m refinement action place h later rest = plain (record { element = element.Unit; extent = extent; copy = copy; width = width; name = m; refinement = refinement; action = action; place = place }) refl h later rest

@@ -1,10 +1,10 @@
 -- What a field is by what its type's name stands for: its element, its width, and what may be refined. Cited by other crates.
-use Rattle.std.proofs.Common.{◌≡◌, ◌⊎◌, inl, inr, ℕ, ◌+◌, ◌-◌, ◌*◌, ◌<◌, ◌≤◌, Bool, true, false, cond, if◌then◌else◌, List, [], ◌∷◌, ◌++◌, length, refl, subst, Option, Some, None, nat_le, nat_lt, slice_get}
+use Rattle.std.proofs.Common.{◌≡◌, ◌⊎◌, inl, inr, ℕ, ◌*◌, ◌<◌, ◌≤◌, Bool, true, false, cond, if◌then◌else◌, List, [], ◌∷◌, ◌++◌, length, refl, subst, Option, Some, None, nat_le, nat_lt, slice_get}
 use Rattle.std.proofs.lemmas.Bool.{leb-true, ltb-true, and_parts}
 use Rattle.std.proofs.lemmas.Option.{none-some, same_Some}
 use Rattle.std.specs.Str.{bytes_eq}
 use Rattle.td_num.specs.Numbers.{bytes_in}
-use Rattle.td_elab_rules.specs.Imports.{NumberType, TypeKind, TypeTree, ExtentTree, Enum, Element, Extent, Once, Filling, OnceFilling, UpToZero, Bits, Part, TypeDef}
+use Rattle.td_elab_rules.specs.Imports.{NumberType, TypeKind, TypeTree, ExtentTree, Element, Extent, Once, Filling, OnceFilling, UpToZero, Given, Part, TypeDef}
 use Rattle.td_num.specs.Lists.{Each}
 use Rattle.td_ast.specs.Extents.{is_array}
 use Rattle.td_ast.specs.Trees.{Tree}
@@ -12,7 +12,7 @@ use Rattle.td_ast.specs.declared.fields.TypeKind.TheVariants as type
 use Rattle.td_ast.specs.declared.fields.ExtentTree.TheVariants as after_name
 use Rattle.td_core.specs.Term.{Term}
 use Rattle.td_core.specs.declared.module.Element.TheVariants as element
-use Rattle.td_core.specs.WellFormed.{IsRefinable, IsZeroEnded, IsEnumThere}
+use Rattle.td_core.specs.WellFormed.{IsRefinable, IsOfNumbers, IsEnumThere}
 use Rattle.td_names.specs.Names.{looked_up}
 use Rattle.td_elab_rules.specs.declared.fields.Readable.{Readable}
 use Rattle.td_elab_rules.specs.declared.known.Meaning.{Meaning}
@@ -28,6 +28,9 @@ use Rattle.td_elab_rules.specs.Types.{number_found, number_of_kind, args_core, a
 use Rattle.td_elab_rules.specs.Extents.{is_width, zero_ended, extent_core, allowed, bit_width}
 use Rattle.td_elab_rules.specs.BitFields.{bit_field}
 use Rattle.td_elab_rules.specs.Fields.{found_base, base_of, readable_base}
+use Rattle.td_elab_rules.specs.Actions.{stored_cell}
+use Rattle.td_elab_rules.specs.Given.{tree_source, held_source}
+use Rattle.td_elab_rules.proofs.Given.{given_case}
 
 -- a bit field is no wider than its base, and stands once
 abbrev pub IsNarrow : Option (NumberType × ℕ) → Type 0
@@ -96,6 +99,7 @@ kind_there count k s (type.Named n args) h = enum_there count k s (found_in k s 
 abbrev pub IsNumber : Element → Extent → Type 0
 IsNumber (element.Number t) Once = Unit {0}
 IsNumber (element.Listed t v) Once = Unit {0}
+IsNumber (element.Number t) (Given source) = Unit {0}
 IsNumber e x = ⊥
 
 abbrev pub IsRead : Element → Extent → Option Readable → Type 0
@@ -125,6 +129,10 @@ extent_read k s t (Some (after_name.ByteSize e)) = inl refl
 extent_read k s t (Some (after_name.SingleElement e)) = inl refl
 extent_read k s t (Some (after_name.Zeroterm e)) = inl refl
 extent_read k s t (Some (after_name.Bits n)) = kind_read k s t.kind (bit_width k s t (Some (after_name.Bits n)))
+extent_read k s t (Some (after_name.Given e)) =
+    given_case (λ y x. IsRead y x (readable_base (base_of k s t.kind) None)) (λ o. tree_source k s o e) refl (λ u x q h. inr tt) (element_of k s t) (kind_read k s t.kind None)
+extent_read k s t (Some (after_name.OfCell star p)) =
+    given_case (λ y x. IsRead y x (readable_base (base_of k s t.kind) None)) (λ o. held_source o (stored_cell k s p)) refl (λ u x q h. inr tt) (element_of k s t) (kind_read k s t.kind None)
 
 pub number_refinable : (e : Element) (x : Extent) (p : Part) → IsNumber e x → IsRefinable e x p
 number_refinable (element.Number t) Once p h = tt
@@ -132,9 +140,11 @@ number_refinable (element.Listed t v) Once p h = tt
 number_refinable (element.Number t) (Filling z step) p h = absurd h
 number_refinable (element.Number t) (OnceFilling z step) p h = absurd h
 number_refinable (element.Number t) (UpToZero z) p h = absurd h
+number_refinable (element.Number t) (Given source) p h = tt
 number_refinable (element.Listed t v) (Filling z step) p h = absurd h
 number_refinable (element.Listed t v) (OnceFilling z step) p h = absurd h
 number_refinable (element.Listed t v) (UpToZero z) p h = absurd h
+number_refinable (element.Listed t v) (Given source) p h = absurd h
 number_refinable (element.Named j es own) x p h = absurd h
 number_refinable element.Unit x p h = absurd h
 number_refinable element.Rest x p h = absurd h
@@ -146,54 +156,58 @@ none_refinable (element.Listed t v) Once p h = tt
 none_refinable (element.Number t) (Filling z step) p h = h
 none_refinable (element.Number t) (OnceFilling z step) p h = h
 none_refinable (element.Number t) (UpToZero z) p h = h
+none_refinable (element.Number t) (Given source) p h = tt
 none_refinable (element.Listed t v) (Filling z step) p h = h
 none_refinable (element.Listed t v) (OnceFilling z step) p h = h
 none_refinable (element.Listed t v) (UpToZero z) p h = h
+none_refinable (element.Listed t v) (Given source) p h = h
 none_refinable (element.Named j es own) x p h = h
 none_refinable element.Unit x p h = h
 none_refinable element.Rest x p h = h
 none_refinable element.Zeros x p h = h
 
--- an array up to a zero has numbers
-once_ended : (e : Element) → IsZeroEnded e Once
-once_ended (element.Number t) = tt
-once_ended (element.Listed t v) = tt
-once_ended (element.Named j es own) = tt
-once_ended element.Unit = tt
-once_ended element.Rest = tt
-once_ended element.Zeros = tt
+-- an array up to a zero has numbers, and a field without bytes is one
+once_numbers : (e : Element) → IsOfNumbers e Once
+once_numbers (element.Number t) = tt
+once_numbers (element.Listed t v) = tt
+once_numbers (element.Named j es own) = tt
+once_numbers element.Unit = tt
+once_numbers element.Rest = tt
+once_numbers element.Zeros = tt
 
-filling_ended : (e : Element) (z : Term) (step : Option ℕ) → IsZeroEnded e (Filling z step)
-filling_ended (element.Number t) z step = tt
-filling_ended (element.Listed t v) z step = tt
-filling_ended (element.Named j es own) z step = tt
-filling_ended element.Unit z step = tt
-filling_ended element.Rest z step = tt
-filling_ended element.Zeros z step = tt
+filling_numbers : (e : Element) (z : Term) (step : Option ℕ) → IsOfNumbers e (Filling z step)
+filling_numbers (element.Number t) z step = tt
+filling_numbers (element.Listed t v) z step = tt
+filling_numbers (element.Named j es own) z step = tt
+filling_numbers element.Unit z step = tt
+filling_numbers element.Rest z step = tt
+filling_numbers element.Zeros z step = tt
 
-once_filling_ended : (e : Element) (z : Term) (step : Option ℕ) → IsZeroEnded e (OnceFilling z step)
-once_filling_ended (element.Number t) z step = tt
-once_filling_ended (element.Listed t v) z step = tt
-once_filling_ended (element.Named j es own) z step = tt
-once_filling_ended element.Unit z step = tt
-once_filling_ended element.Rest z step = tt
-once_filling_ended element.Zeros z step = tt
+once_filling_numbers : (e : Element) (z : Term) (step : Option ℕ) → IsOfNumbers e (OnceFilling z step)
+once_filling_numbers (element.Number t) z step = tt
+once_filling_numbers (element.Listed t v) z step = tt
+once_filling_numbers (element.Named j es own) z step = tt
+once_filling_numbers element.Unit z step = tt
+once_filling_numbers element.Rest z step = tt
+once_filling_numbers element.Zeros z step = tt
 
-zero_ends : (e : Element) (z : Term) → IsZeroEnded e (zero_ended e z)
-zero_ends (element.Number t) z = tt
-zero_ends (element.Listed t v) z = tt
-zero_ends (element.Named j es own) z = tt
-zero_ends element.Unit z = tt
-zero_ends element.Rest z = tt
-zero_ends element.Zeros z = tt
+zero_numbers : (e : Element) (z : Term) → IsOfNumbers e (zero_ended e z)
+zero_numbers (element.Number t) z = tt
+zero_numbers (element.Listed t v) z = tt
+zero_numbers (element.Named j es own) z = tt
+zero_numbers element.Unit z = tt
+zero_numbers element.Rest z = tt
+zero_numbers element.Zeros z = tt
 
-pub extent_ends : (k : Known) (s : Scope) (e : Element) (x : Option ExtentTree) → IsZeroEnded e (extent_core k s e x)
-extent_ends k s e None = once_ended e
-extent_ends k s e (Some (after_name.Bytes z)) = filling_ended e _ _
-extent_ends k s e (Some (after_name.ByteSize z)) = filling_ended e _ _
-extent_ends k s e (Some (after_name.SingleElement z)) = once_filling_ended e _ _
-extent_ends k s e (Some (after_name.Zeroterm z)) = zero_ends e (core_of k s z)
-extent_ends k s e (Some (after_name.Bits n)) = once_ended e
+pub extent_numbers : (k : Known) (s : Scope) (e : Element) (x : Option ExtentTree) → IsOfNumbers e (extent_core k s e x)
+extent_numbers k s e None = once_numbers e
+extent_numbers k s e (Some (after_name.Bytes z)) = filling_numbers e _ _
+extent_numbers k s e (Some (after_name.ByteSize z)) = filling_numbers e _ _
+extent_numbers k s e (Some (after_name.SingleElement z)) = once_filling_numbers e _ _
+extent_numbers k s e (Some (after_name.Zeroterm z)) = zero_numbers e (core_of k s z)
+extent_numbers k s e (Some (after_name.Bits n)) = once_numbers e
+extent_numbers k s e (Some (after_name.Given z)) = given_case IsOfNumbers (λ o. tree_source k s o z) refl (λ u x q h. tt) e (once_numbers e)
+extent_numbers k s e (Some (after_name.OfCell star p)) = given_case IsOfNumbers (λ o. held_source o (stored_cell k s p)) refl (λ u x q h. tt) e (once_numbers e)
 
 -- a bit field is no wider than its base
 allowed_narrow : (t : NumberType) (n : ℕ) → IsNarrow (bit_field (element.Number t) (allowed (Some t) n))
@@ -243,3 +257,5 @@ extent_narrow k s t (Some (after_name.ByteSize e)) = no_width (element_of k s t)
 extent_narrow k s t (Some (after_name.SingleElement e)) = no_width (element_of k s t)
 extent_narrow k s t (Some (after_name.Zeroterm e)) = no_width (element_of k s t)
 extent_narrow k s t (Some (after_name.Bits n)) = kind_narrow k s t.kind n.value
+extent_narrow k s t (Some (after_name.Given e)) = no_width (element_of k s t)
+extent_narrow k s t (Some (after_name.OfCell star p)) = no_width (element_of k s t)

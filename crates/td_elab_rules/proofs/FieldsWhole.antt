@@ -3,10 +3,10 @@
 use Rattle.std.proofs.Common.{◌≡◌, inl, inr, ℕ, ◌+◌, ◌-◌, ◌*◌, ◌<◌, ◌≤◌, Bool, true, false, if◌then◌else◌, List, [], ◌∷◌, ◌++◌, length, refl, sym, ap, ◌∙◌, subst, arith, Option, Some, None, is_some, nat_le, nat_eq, length-append}
 use Rattle.std.proofs.lemmas.Bool.{leb-true, and_parts}
 use Rattle.td_num.specs.Numbers.{bytes_in}
-use Rattle.td_elab_rules.specs.Imports.{NumberType, ByteOrder, LittleEndian, BigEndian, FieldTree, ItemTree, EnumTree, CaseTree, Def, Define, Enum, Alias, Struct, Casetype, Output, ModuleTree, Element, Extent, Once, Filling, OnceFilling, UpToZero, Bits, Part, PlainTree}
+use Rattle.td_elab_rules.specs.Imports.{NumberType, ByteOrder, LittleEndian, BigEndian, FieldTree, ItemTree, EnumTree, CaseTree, Def, Define, Enum, Alias, Struct, Casetype, Output, ModuleTree, Element, Extent, Once, Filling, OnceFilling, UpToZero, Given, Bits, Part, PlainTree}
 use Rattle.td_num.specs.Lists.{Each}
 use Rattle.td_core.specs.declared.module.Element.TheVariants as element
-use Rattle.td_core.specs.WellFormed.{OfSome, EachField, HasParts, AreBitsOf, AreParts, AreFieldParts, IsRefinable, IsZeroEnded, IsEnumThere, IsFieldWhole}
+use Rattle.td_core.specs.WellFormed.{OfSome, EachField, HasParts, AreBitsOf, AreParts, AreFieldParts, IsRefinable, IsOfNumbers, IsEnumThere, IsFieldWhole}
 use Rattle.td_names.specs.Names.{looked_up, declared}
 use Rattle.td_elab_rules.specs.declared.fields.Readable.{Readable}
 use Rattle.td_elab_rules.specs.declared.fields.FlatField.{FlatField}
@@ -35,7 +35,7 @@ use Rattle.td_elab_rules.specs.Laws.{FieldsAreWhole}
 use Rattle.td_elab_rules.proofs.Whole.{gathered_each, has_more}
 use Rattle.td_elab_rules.proofs.OwnFormed.{width_same}
 use Rattle.td_num.proofs.Lists.{each_append}
-use Rattle.td_elab_rules.proofs.FieldsFound.{IsNarrow, IsMeaningThere, IsFoundListed, AreListed, IsRead, found_listed, kind_there, extent_read, number_refinable, none_refinable, extent_ends, extent_narrow}
+use Rattle.td_elab_rules.proofs.FieldsFound.{IsNarrow, IsMeaningThere, IsFoundListed, AreListed, IsRead, found_listed, kind_there, extent_read, number_refinable, none_refinable, extent_numbers, extent_narrow}
 
 -- Units
 
@@ -68,7 +68,7 @@ record IsUnitWhole (u : OpenUnit) : Type 0 where
 
 record IsFlatWhole (count : ℕ) (x : FlatField) : Type 0 where
   refined : IsRefinable x.element x.extent (part_of None x)
-  ended : IsZeroEnded x.element x.extent
+  numbers : IsOfNumbers x.element x.extent
   listed : IsEnumThere count x.element
   narrow : IsNarrow (bit_field x.element x.width)
 
@@ -78,6 +78,7 @@ alone_parts (element.Number t) Once = refl
 alone_parts (element.Number t) (Filling z step) = refl
 alone_parts (element.Number t) (OnceFilling z step) = refl
 alone_parts (element.Number t) (UpToZero z) = refl
+alone_parts (element.Number t) (Given source) = refl
 alone_parts (element.Listed t v) x = refl
 alone_parts (element.Named j es own) x = refl
 alone_parts element.Unit x = refl
@@ -85,7 +86,7 @@ alone_parts element.Rest x = refl
 alone_parts element.Zeros x = refl
 
 alone_whole : (count : ℕ) (x : FlatField) → IsFlatWhole count x → IsFieldWhole count (whole_field x)
-alone_whole count x q = record { parts = alone_parts x.element x.extent; refined = (q.refined, tt); ended = q.ended; listed = q.listed }
+alone_whole count x q = record { parts = alone_parts x.element x.extent; refined = (q.refined, tt); numbers = q.numbers; listed = q.listed }
 
 narrow_at : (o : Option (NumberType × ℕ)) (t : NumberType) (w : ℕ) → IsNarrow o → o ≡ Some (t, w) → (0 < w) × (w ≤ 8 * bytes_in t.width)
 narrow_at o t w h e = subst IsNarrow e h
@@ -109,12 +110,12 @@ goes_on_whole count u x t w h q e f =
     }
 
 ends_whole : (count : ℕ) (u : OpenUnit) → IsUnitWhole u → IsFieldWhole count (unit_field u)
-ends_whole count u h = record { parts = parts_there u.room.base u.parts h.bits h.some; refined = any_part u.room.base u.parts; ended = tt; listed = tt }
+ends_whole count u h = record { parts = parts_there u.room.base u.parts h.bits h.some; refined = any_part u.room.base u.parts; numbers = tt; listed = tt }
 
 flat_whole : (count : ℕ) (names : List (List ℕ)) (k : Known) (s : Scope) (f : FieldTree) → AreListed count k.globals → IsFlatWhole count (flat_of names k s f)
 flat_whole count names k s f h = record {
   refined = by (readable_of k s f) refl (extent_read k s f.type_tree f.extent);
-  ended = extent_ends k s (element_of k s f.type_tree) f.extent;
+  numbers = extent_numbers k s (element_of k s f.type_tree) f.extent;
   listed = kind_there count k s f.type_tree.kind h;
   narrow = extent_narrow k s f.type_tree f.extent;
 }

@@ -1,6 +1,7 @@
 pub mod Scopes
 pub mod DeedsFormed
 pub mod OwnFormed
+pub mod Given
 pub mod FieldsFormed
 pub mod Whole
 pub mod Copying

@@ -1,9 +1,11 @@
 -- In a module that a tree stands for, truth values stand where truth values must, and numbers where numbers must.
-use Rattle.std.proofs.Common.{◌≡◌, ◌≢◌, ℕ, Bool, true, false, cond, ◌&&◌, List, [], ◌∷◌, ◌++◌, length, refl, sym, subst, Option, Some, None, nat_le, slice_get}
-use Rattle.td_elab_rules.specs.Imports.{NumberType, Width, Span, Assigned, Value as Stored, FieldPtr, ActionTree, Done, Copied, TypeKind, TypeTree, ExtentTree, FieldTree, ParamTree, ItemTree, CaseTree, StructTree, CasetypeTree, Def, Define, Enum, Alias, Struct, Casetype, Output, Scalar, Truth, Element, TypeDef}
+use Rattle.std.proofs.Common.{◌≡◌, ◌≢◌, ℕ, Bool, true, false, cond, List, [], ◌∷◌, ◌++◌, length, refl, sym, subst, Option, Some, None, nat_le, slice_get}
+use Rattle.td_elab_rules.specs.Imports.{NumberType, Width, Span, Assigned, Value as Stored, FieldPtr, ActionTree, Done, Copied, TypeKind, TypeTree, ExtentTree, FieldTree, ParamTree, ItemTree, CaseTree, StructTree, CasetypeTree, Def, Define, Enum, Alias, Struct, Casetype, Output, Scalar, Truth, Element, Source, TypeDef}
+use Rattle.std.proofs.lemmas.Option.{none-some, same_Some}
 use Rattle.td_num.specs.Lists.{Each}
+use Rattle.td_num.specs.Numbers.{bytes_in}
 use Rattle.td_ast.specs.Extents.{is_array}
-use Rattle.td_ast.specs.Trees.{Tree}
+use Rattle.td_ast.specs.Trees.{Tree, span_of}
 use Rattle.td_ast.specs.Statements.{Statement, Store, StoreField, Var, If, IfElse, Return, Abort, Statements, End, More, block_of}
 use Rattle.td_ast.specs.declared.fields.TypeKind.TheVariants as type
 use Rattle.td_ast.specs.declared.fields.ExtentTree.TheVariants as after_name
@@ -12,7 +14,9 @@ use Rattle.td_core.specs.Term.{Term, Deed, set}
 use Rattle.td_core.specs.Types.{bits, type_of}
 use Rattle.td_core.specs.Formed.{scalar_of}
 use Rattle.td_core.specs.declared.module.Element.TheVariants as element
-use Rattle.td_core.specs.WellFormed.{OfSome, IsSorted, IsDeedSorted, IsElementSorted, IsExtentSorted, IsPartSorted, IsFieldSorted, IsDefinitionSorted}
+use Rattle.td_core.specs.declared.module.Source.TheVariants.{Expression, Cell as FromCell, Left}
+use Rattle.td_core.specs.WellFormed.{OfSome, IsSorted, IsDeedSorted, IsElementSorted, IsSourceSorted, IsExtentSorted, IsPartSorted, IsFieldSorted, IsDefinitionSorted}
+use Rattle.td_elab_rules.specs.declared.breach.Rule.TheVariants.{Narrowing}
 use Rattle.td_elab_rules.specs.declared.actions.Target.{Target}
 use Rattle.td_elab_rules.specs.declared.actions.Target.TheVariants as target
 use Rattle.td_elab_rules.specs.declared.fields.Readable.{Readable}
@@ -29,11 +33,13 @@ use Rattle.td_elab_rules.specs.declared.known.Known.{Known}
 use Rattle.td_elab_rules.specs.declared.known.Scope.{Scope}
 use Rattle.td_elab_rules.specs.declared.known.Taken.{Taken}
 use Rattle.td_elab_rules.specs.declared.parameters.Head.{Head}
+use Rattle.td_elab_rules.specs.Breach.{when}
 use Rattle.td_elab_rules.specs.Known.{nothing_known, found_in, signature_at, next_case}
 use Rattle.td_elab_rules.specs.Sorts.{type_alone, sort_of, core_of, option_core, start_core}
 use Rattle.td_elab_rules.specs.ExprRules.{number_breaches, truth_breaches, fitting_breaches, test_breaches}
 use Rattle.td_elab_rules.specs.Actions.{stored_cell, stored_slot, target_breaches, stored_breaches, with_read, scope_after, vars_after, block_vars, statement_breaches, block_breaches, shape_breaches, inside, action_breaches, set_core, read_core, statement_core, block_core, action_core}
-use Rattle.td_elab_rules.specs.Types.{args_breaches, found_breaches, kind_breaches, type_breaches, args_core, args_cells, args_buffers, buffer_cells, fits, applied, found_element, kind_element, element_of}
+use Rattle.td_elab_rules.specs.Types.{args_breaches, found_breaches, kind_breaches, type_breaches, args_core, args_cells, args_buffers, buffer_cells, fits, applied, found_element, kind_element, number_type, element_of}
+use Rattle.td_elab_rules.specs.Given.{is_left, is_shorter, tree_breaches, tree_source, held_source}
 use Rattle.td_elab_rules.specs.Extents.{extent_breaches, zero_ended, extent_core}
 use Rattle.td_elab_rules.specs.BitFields.{part_of}
 use Rattle.td_elab_rules.specs.Fields.{base_of, readable_bits, readable_base, readable_of, with_readable, with_field, field_name_breaches, refined_breaches, field_breaches, field_taken, fields_breaches, refinement_core, flat_of, flats_of, fields_core}
@@ -46,6 +52,7 @@ use Rattle.td_elab_rules.specs.Casetypes.{case_breaches, case_taken, cases_breac
 use Rattle.td_elab_rules.specs.Definitions.{struct_head, struct_scope, struct_breaches, struct_core, casetype_head, casetype_breaches, casetype_core, definition_breaches, definitions_breaches, after, known_after}
 use Rattle.td_elab_rules.specs.Modules.{names_of}
 use Rattle.td_elab_rules.specs.Laws.{ModulesAreSorted}
+use Rattle.td_elab_rules.proofs.Given.{given_case}
 use Rattle.td_elab_rules.proofs.Whole.{gathered_each}
 use Rattle.td_elab_rules.proofs.Sorting.{scalar_number, HasNumbers, numbers_declared, number_sorted, truth_sorted, fitting_sorted, test_sorted}
 use Rattle.td_num.proofs.Lists.{each_append, left_none, right_none}
@@ -158,6 +165,25 @@ zero_sorted element.Unit e h = tt
 zero_sorted element.Rest e h = tt
 zero_sorted element.Zeros e h = tt
 
+-- a value that an expression gives is a number
+tree_sorted : (k : Known) (s : Scope) (o : Option NumberType) (e : Tree) → HasNumbers s → tree_breaches k s o e ≡ [] → (t : NumberType) (x : Source) → tree_source k s (Some t) e ≡ Some x → IsSourceSorted x
+tree_sorted k s o e h none t x = by (is_left e) (is_shorter (Some t) 4) none
+  where
+    by : (b c : Bool) → cond b (when (is_shorter o 4) Narrowing (span_of e)) (number_breaches k s e) ≡ [] → cond b (cond c None (Some Left)) (Some (Expression (span_of e) (core_of k s e))) ≡ Some x → IsSourceSorted x
+    by true true n r = absurd (none-some x r)
+    by true false n r = subst IsSourceSorted (same_Some Left x r) tt
+    by false c n r = subst IsSourceSorted (same_Some (Expression (span_of e) (core_of k s e)) x r) (number_sorted k s e h n)
+
+held_sorted : (c : Target) (t : NumberType) (x : Source) → held_source (Some t) c ≡ Some x → IsSourceSorted x
+held_sorted target.Unknown t x e = absurd (none-some x e)
+held_sorted target.NoCell t x e = absurd (none-some x e)
+held_sorted (target.Pointer c) t x e = absurd (none-some x e)
+held_sorted (target.Number c u) t x e = by (is_shorter (Some t) (bytes_in u.width)) e
+  where
+    by : (b : Bool) → cond b None (Some (FromCell c)) ≡ Some x → IsSourceSorted x
+    by true r = absurd (none-some x r)
+    by false r = subst IsSourceSorted (same_Some (FromCell c) x r) tt
+
 extent_sorted : (k : Known) (s : Scope) (t : TypeTree) (x : Element) (e : Option ExtentTree) → HasNumbers s → extent_breaches k s t e ≡ [] → IsExtentSorted (extent_core k s x e)
 extent_sorted k s t x None h b = tt
 extent_sorted k s t x (Some (after_name.Bytes e)) h b = number_sorted k s e h (right_none _ (number_breaches k s e) b)
@@ -165,6 +191,11 @@ extent_sorted k s t x (Some (after_name.ByteSize e)) h b = number_sorted k s e h
 extent_sorted k s t x (Some (after_name.SingleElement e)) h b = number_sorted k s e h b
 extent_sorted k s t x (Some (after_name.Zeroterm e)) h b = zero_sorted x (core_of k s e) (number_sorted k s e h (right_none _ (number_breaches k s e) b))
 extent_sorted k s t x (Some (after_name.Bits n)) h b = tt
+extent_sorted k s t x (Some (after_name.Given e)) h b =
+    given_case (λ y z. IsExtentSorted z) (λ o. tree_source k s o e) refl
+    (λ u z q w. tree_sorted k s (number_type k s t) e h (right_none _ (tree_breaches k s (number_type k s t) e) b) u z q) x tt
+extent_sorted k s t x (Some (after_name.OfCell star p)) h b =
+    given_case (λ y z. IsExtentSorted z) (λ o. held_source o (stored_cell k s p)) refl (λ u z q w. held_sorted (stored_cell k s p) u z q) x tt
 
 -- Fields
 

@@ -2,7 +2,7 @@
 -- of the definition.
 use Rattle.std.specs.Prelude.{ℕ, ◌+◌, ◌*◌, Bool, true, false, cond, not, List, [], ◌++◌, length, Option, Some, None, slice_get}
 use Rattle.td_elab_rules.specs.Imports.{Span, ActionTree, Done, Copied, TypeTree, ExtentTree, FieldTree, CopyOut}
-use Rattle.td_ast.specs.declared.fields.ExtentTree.TheVariants.{Bytes, ByteSize, SingleElement, Zeroterm, Bits}
+use Rattle.td_ast.specs.declared.fields.ExtentTree.TheVariants.{Bytes, ByteSize, SingleElement, Zeroterm, Bits, Given, OfCell}
 use Rattle.td_elab_rules.specs.declared.breach.Rule.TheVariants.{Unknown, WrongArgs, BadAction}
 use Rattle.td_elab_rules.specs.declared.breach.Breach.{Breach}
 use Rattle.td_elab_rules.specs.declared.known.Local.TheVariants as local
@@ -22,6 +22,8 @@ are_bytes k s t (Some (ByteSize e)) = is_byte (number_type k s t)
 are_bytes k s t (Some (SingleElement e)) = false
 are_bytes k s t (Some (Zeroterm e)) = false
 are_bytes k s t (Some (Bits n)) = false
+are_bytes k s t (Some (Given e)) = false
+are_bytes k s t (Some (OfCell star p)) = false
 
 -- N1, N4: no such name; no copy buffer
 abbrev pub buffer_breaches : Found → Span → List Breach

@@ -6,7 +6,7 @@ use Rattle.td_num.specs.Numbers.{bytes_in}
 use Rattle.td_elab_rules.specs.Imports.{NumberType, SizeofOperand, TypeKind, ExtentTree, FieldTree}
 use Rattle.td_ast.specs.declared.expressions.SizeofOperand.TheVariants as operand
 use Rattle.td_ast.specs.declared.fields.TypeKind.TheVariants as type
-use Rattle.td_ast.specs.declared.fields.ExtentTree.TheVariants.{Bytes, ByteSize, SingleElement, Zeroterm, Bits}
+use Rattle.td_ast.specs.declared.fields.ExtentTree.TheVariants.{Bytes, ByteSize, SingleElement, Zeroterm, Bits, Given, OfCell}
 use Rattle.td_ast.specs.Trees.{Tree}
 use Rattle.td_ast.specs.Trees as tree
 use Rattle.td_expr.specs.Same.{constant_of}
@@ -78,6 +78,11 @@ bits_size room None w = None
 bits_size room (Some t) None = None
 bits_size room (Some t) (Some w) = unit_size room t w
 
+-- a value that is given takes no bytes
+abbrev pub given_size : Option NumberType → Leading
+given_size None = None
+given_size (Some t) = sized (Some 0)
+
 abbrev pub extent_size : Known → Scope → Option UnitRoom → FieldTree → Option ExtentTree → Leading
 extent_size k s room f None = sized (kind_size k s f.type_tree.kind)
 extent_size k s room f (Some (Bytes e)) = cond (is_byte (number_type k s f.type_tree)) (sized (array_size k s e)) None
@@ -85,6 +90,8 @@ extent_size k s room f (Some (ByteSize e)) = sized (array_size k s e)
 extent_size k s room f (Some (SingleElement e)) = sized (array_size k s e)
 extent_size k s room f (Some (Zeroterm e)) = None
 extent_size k s room f (Some (Bits n)) = bits_size room (number_type k s f.type_tree) (bit_width k s f.type_tree f.extent)
+extent_size k s room f (Some (Given e)) = given_size (number_type k s f.type_tree)
+extent_size k s room f (Some (OfCell star p)) = given_size (number_type k s f.type_tree)
 
 abbrev pub leading_field : Known → Scope → Option UnitRoom → FieldTree → Leading
 leading_field k s room f = cond (names_type k s f.type_tree.kind) (extent_size k s room f f.extent) None

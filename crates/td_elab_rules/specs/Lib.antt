@@ -5,6 +5,7 @@ pub mod Sorts
 pub mod ExprRules
 pub mod Actions
 pub mod Types
+pub mod Given
 pub mod Extents
 pub mod BitFields
 pub mod Fields

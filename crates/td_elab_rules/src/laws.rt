@@ -8,7 +8,7 @@ pub fn one_module()
 {}
 
 /// In a module that a tree stands for, levels are in scope, literals fit, types that are named stand earlier, with
-/// arguments and cells that match, and what is assigned fits its cell.
+/// arguments and cells that match, and what is assigned fits its cell. What a cell holds fits the field that it gives a value.
 pub fn modules_are_formed()
     ensures { ModulesAreFormed }
 {}
@@ -29,7 +29,7 @@ pub fn modules_are_whole()
 {}
 
 /// In a module that a tree stands for, bit fields lie in their numbers, refinements stand on numbers, arrays up to a zero
-/// have numbers, and enums have their values.
+/// and fields without bytes have numbers, and enums have their values.
 pub fn fields_are_whole()
     ensures { FieldsAreWhole }
 {}

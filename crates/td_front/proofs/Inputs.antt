@@ -8,7 +8,7 @@ use Rattle.td_front_flat.specs.Flat.{flat, written, spelled_names, IsTwice, IsCy
 use Rattle.td_front_flat.specs.Laws.{HasAnswer, EachAnswered}
 use Rattle.td_front_flat_facts.specs.Laws.{OneAnswerEach}
 use Rattle.td_front.specs.declared.error.FrontError.{FrontError}
-use Rattle.td_front.specs.declared.error.FrontError.TheVariants.{BadByte, OpenComment, BigNumber, Unexpected, Deep, Limit, Broken, Cycle, ZeroElement, RestNotLast, Unsafe, Room, NoMemory}
+use Rattle.td_front.specs.declared.error.FrontError.TheVariants.{BadByte, OpenComment, BigNumber, Unexpected, Deep, Limit, Broken, Cycle, ZeroElement, RestNotLast, Unsafe, Room, Value, NoMemory}
 use Rattle.td_front.specs.Passes.{RefusesTree}
 use Rattle.td_front.specs.Inputs.{HasInputCounts, IsAdmittedInput, RefusedByCounts, RefusedByParts, RefusesInput, with_names, input_module}
 use Rattle.td_front.proofs.Trees.{Firsts, Judgement, judged, admitted_judged, refused_judged, Decided, decided}
@@ -113,4 +113,5 @@ alone_refused tree (ZeroElement span) h = inr (h.0.0, inr (tt, h))
 alone_refused tree (RestNotLast span) h = inr (h.0.0, inr (tt, h))
 alone_refused tree (Unsafe span op) h = inr (h.0.0.0, inr (tt, h))
 alone_refused tree (Room span) h = inr (h.0.0.0, inr (tt, h))
+alone_refused tree (Value span) h = inr (h.0.0.0, inr (tt, h))
 alone_refused tree NoMemory h = absurd h

@@ -17,7 +17,7 @@ use Rattle.td_elab_rules.specs.Modules.{all_names, module_from, module_of}
 use Rattle.td_front_flat.specs.declared.error.FlatError.TheVariants.{Twice as TwiceAt, Cycle as CycleAt, NoMemory as NotFlat}
 use Rattle.td_elab.specs.declared.elaborate.ElabError.TheVariants.{Broken as BrokenAt, NoMemory as NoModule}
 use Rattle.td_kinds.specs.declared.error.KindError.TheVariants.{ZeroElement as ZeroElementAt, RestNotLast as RestNotLastAt, NoMemory as NoKinds}
-use Rattle.td_arith.specs.declared.error.ArithError.TheVariants.{Unsafe as UnsafeAt, Room as RoomAt, NoMemory as NoSafety}
+use Rattle.td_arith.specs.declared.error.ArithError.TheVariants.{Unsafe as UnsafeAt, Room as RoomAt, Value as ValueAt, NoMemory as NoSafety}
 use Rattle.td_front.specs.declared.error.FrontError.{FrontError}
 use Rattle.td_front.specs.declared.error.FrontError.TheVariants.{NoMemory}
 use Rattle.td_front.specs.Errors.{of_lexing, of_parsing, of_flattening, of_elaboration, of_kinds, of_arith}
@@ -69,6 +69,7 @@ kinds_memory NoKinds e is same = refl
 pub arith_memory : (l : ArithError) (e : FrontError) → e ≡ of_arith l → e ≡ NoMemory → l ≡ NoSafety
 arith_memory (UnsafeAt span op) e is same = absurd (cc (is, same))
 arith_memory (RoomAt span) e is same = absurd (cc (is, same))
+arith_memory (ValueAt span) e is same = absurd (cc (is, same))
 arith_memory NoSafety e is same = refl
 
 -- ---- tokens and definitions

@@ -11,7 +11,7 @@ use Rattle.td_grammar.specs.Laws.{Answer, Tree, Refused, TooDeep, EachAnswered, 
 use Rattle.td_elab_rules.specs.Modules.{module_of}
 use Rattle.td_front_flat.specs.Flat.{flat, IsLinked}
 use Rattle.td_front.specs.declared.error.FrontError.{FrontError}
-use Rattle.td_front.specs.declared.error.FrontError.TheVariants.{BadByte, OpenComment, BigNumber, Unexpected, Deep, Limit, Broken, Cycle, ZeroElement, RestNotLast, Unsafe, Room, NoMemory}
+use Rattle.td_front.specs.declared.error.FrontError.TheVariants.{BadByte, OpenComment, BigNumber, Unexpected, Deep, Limit, Broken, Cycle, ZeroElement, RestNotLast, Unsafe, Room, Value, NoMemory}
 use Rattle.td_front.specs.Errors.{of_lexing}
 use Rattle.td_front.specs.Passes.{IsAdmitted, RefusesTree}
 use Rattle.td_front.specs.Inputs.{HasInputCounts, RefusesInput, input_module}
@@ -100,6 +100,7 @@ refused_answer below text (ZeroElement span) h = tree_answer below text (ZeroEle
 refused_answer below text (RestNotLast span) h = tree_answer below text (RestNotLast span) h
 refused_answer below text (Unsafe span op) h = tree_answer below text (Unsafe span op) h
 refused_answer below text (Room span) h = tree_answer below text (Room span) h
+refused_answer below text (Value span) h = tree_answer below text (Value span) h
 refused_answer below text NoMemory h = absurd h
 
 -- ---- the laws
@@ -133,6 +134,7 @@ of_input text input spells (ZeroElement span) h = (input, spells, h)
 of_input text input spells (RestNotLast span) h = (input, spells, h)
 of_input text input spells (Unsafe span op) h = (input, spells, h)
 of_input text input spells (Room span) h = (input, spells, h)
+of_input text input spells (Value span) h = (input, spells, h)
 of_input text input spells NoMemory h = absurd (nowhere h)
 
 abbrev pub OneOfBoth : List ℕ → Type 0

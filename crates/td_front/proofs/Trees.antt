@@ -16,7 +16,7 @@ use Rattle.td_kinds.specs.declared.error.KindFault.TheVariants as kind
 use Rattle.td_kinds.specs.KindRules.{kind_faults, first_fault}
 use Rattle.td_arith.specs.SafeModule.{module_unsafe}
 use Rattle.td_front.specs.declared.error.FrontError.{FrontError}
-use Rattle.td_front.specs.declared.error.FrontError.TheVariants.{BadByte, OpenComment, BigNumber, Unexpected, Deep, Limit, Broken, Cycle, ZeroElement, RestNotLast, Unsafe, Room, NoMemory}
+use Rattle.td_front.specs.declared.error.FrontError.TheVariants.{BadByte, OpenComment, BigNumber, Unexpected, Deep, Limit, Broken, Cycle, ZeroElement, RestNotLast, Unsafe, Room, Value, NoMemory}
 use Rattle.td_front.specs.Passes.{HasCounts, HasModule, HasKinds, HasSafety, IsAdmitted, RefusesTree}
 
 -- what td_elab says of first breaches
@@ -38,6 +38,7 @@ abbrev safe : ModuleTree → Option unsafes.Unsafe → Judgement
 safe tree None = sized tree (sizes_passed tree)
 safe tree (Some (finding.Operator span op)) = Err (Unsafe span op)
 safe tree (Some (finding.Room span)) = Err (Room span)
+safe tree (Some (finding.Value span)) = Err (Value span)
 
 abbrev kinded : ModuleTree → Option KindFault → Judgement
 kinded tree None = safe tree (module_unsafe (module_of tree))
@@ -113,6 +114,7 @@ refused_judged firsts tree (ZeroElement span) (has, h) = to_kinded firsts tree h
 refused_judged firsts tree (RestNotLast span) (has, h) = to_kinded firsts tree has ∙ ap (kinded tree) h
 refused_judged firsts tree (Unsafe span op) (has, h) = to_safe firsts tree has ∙ ap (safe tree) h
 refused_judged firsts tree (Room span) (has, h) = to_safe firsts tree has ∙ ap (safe tree) h
+refused_judged firsts tree (Value span) (has, h) = to_safe firsts tree has ∙ ap (safe tree) h
 refused_judged firsts tree NoMemory h = absurd h
 
 -- ---- one of both
@@ -128,6 +130,7 @@ by_safety : (tree : ModuleTree) → HasKinds tree → (o : Option unsafes.Unsafe
 by_safety tree has None e = by_sizes tree (has, e) (sizes_passed tree) refl
 by_safety tree has (Some (finding.Operator span op)) e = inr (Unsafe span op, (has, e))
 by_safety tree has (Some (finding.Room span)) e = inr (Room span, (has, e))
+by_safety tree has (Some (finding.Value span)) e = inr (Value span, (has, e))
 
 by_kinds : (tree : ModuleTree) → HasModule tree → (fs : List KindFault) → kind_faults (module_of tree) ≡ fs → Decided tree
 by_kinds tree has [] e = by_safety tree (has, e) (module_unsafe (module_of tree)) refl

@@ -5,9 +5,9 @@ use Rattle.td_parser.specs.declared.error.ParseError.TheVariants.{Unexpected as 
 use Rattle.td_front_flat.specs.declared.error.FlatError.TheVariants.{Twice as TwiceAt, Cycle as CycleAt, NoMemory as NotFlat}
 use Rattle.td_elab.specs.declared.elaborate.ElabError.TheVariants.{Broken as BrokenAt, NoMemory as NoModule}
 use Rattle.td_kinds.specs.declared.error.KindError.TheVariants.{ZeroElement as ZeroElementAt, RestNotLast as RestNotLastAt, NoMemory as NoKinds}
-use Rattle.td_arith.specs.declared.error.ArithError.TheVariants.{Unsafe as UnsafeAt, Room as RoomAt, NoMemory as NoSafety}
+use Rattle.td_arith.specs.declared.error.ArithError.TheVariants.{Unsafe as UnsafeAt, Room as RoomAt, Value as ValueAt, NoMemory as NoSafety}
 use Rattle.td_front.specs.declared.error.FrontError.{FrontError}
-use Rattle.td_front.specs.declared.error.FrontError.TheVariants.{BadByte, OpenComment, BigNumber, Unexpected, Deep, Limit, Broken, Cycle, ZeroElement, RestNotLast, Unsafe, Room, NoMemory}
+use Rattle.td_front.specs.declared.error.FrontError.TheVariants.{BadByte, OpenComment, BigNumber, Unexpected, Deep, Limit, Broken, Cycle, ZeroElement, RestNotLast, Unsafe, Room, Value, NoMemory}
 use Rattle.td_front.specs.ModuleText.{beginning_of}
 
 abbrev pub of_lexing : LexError → FrontError
@@ -43,4 +43,5 @@ of_kinds NoKinds = NoMemory
 abbrev pub of_arith : ArithError → FrontError
 of_arith (UnsafeAt span op) = Unsafe span op
 of_arith (RoomAt span) = Room span
+of_arith (ValueAt span) = Value span
 of_arith NoSafety = NoMemory

@@ -8,7 +8,7 @@ use Rattle.td_elab_rules.specs.declared.breach.Rule.{Rule}
 use Rattle.td_elab_rules.specs.declared.breach.Rule.TheVariants as rule
 use Rattle.td_elab_rules.specs.Breach.{rule_words}
 use Rattle.td_front.specs.declared.error.FrontError.{FrontError}
-use Rattle.td_front.specs.declared.error.FrontError.TheVariants.{BadByte, OpenComment, BigNumber, Unexpected, Deep, Limit, Broken, Cycle, ZeroElement, RestNotLast, Unsafe, Room, NoMemory}
+use Rattle.td_front.specs.declared.error.FrontError.TheVariants.{BadByte, OpenComment, BigNumber, Unexpected, Deep, Limit, Broken, Cycle, ZeroElement, RestNotLast, Unsafe, Room, Value, NoMemory}
 
 -- the byte of the text at which it stands
 abbrev pub place_of : FrontError → ℕ
@@ -24,6 +24,7 @@ place_of (ZeroElement span) = span.from
 place_of (RestNotLast span) = span.from
 place_of (Unsafe span op) = span.from
 place_of (Room span) = span.from
+place_of (Value span) = span.from
 place_of NoMemory = 0
 
 -- the codes of the rules of names, types, constants and actions
@@ -75,6 +76,7 @@ code_of (ZeroElement span) = codes "K1"
 code_of (RestNotLast span) = codes "K2"
 code_of (Unsafe span op) = codes "A1"
 code_of (Room span) = codes "A2"
+code_of (Value span) = codes "A1"
 code_of NoMemory = []
 
 -- its words
@@ -91,4 +93,5 @@ words_of (ZeroElement span) = codes "element may be empty"
 words_of (RestNotLast span) = codes "rest not last"
 words_of (Unsafe span op) = unsafe_words op
 words_of (Room span) = codes "room"
+words_of (Value span) = codes "unsafe ="
 words_of NoMemory = []

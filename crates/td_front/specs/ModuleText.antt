@@ -6,7 +6,7 @@ use Rattle.td_grammar.specs.Spelling.{IsFirstRefused}
 use Rattle.td_grammar.specs.Limits.{IsFirstDeep, IsWithinLimits}
 use Rattle.td_grammar.specs.Parts.{input_text}
 use Rattle.td_front.specs.declared.error.FrontError.{FrontError}
-use Rattle.td_front.specs.declared.error.FrontError.TheVariants.{BadByte, OpenComment, BigNumber, Unexpected, Deep, Limit, Broken, Cycle, ZeroElement, RestNotLast, Unsafe, Room, NoMemory}
+use Rattle.td_front.specs.declared.error.FrontError.TheVariants.{BadByte, OpenComment, BigNumber, Unexpected, Deep, Limit, Broken, Cycle, ZeroElement, RestNotLast, Unsafe, Room, Value, NoMemory}
 use Rattle.td_front.specs.Inputs.{IsAdmittedInput, RefusesInput, input_module}
 
 -- the text splits into tokens that spell this module or these parts, and none of them passes a limit
@@ -57,4 +57,5 @@ RefusedBy text (ZeroElement span) = RefusedTree text (ZeroElement span)
 RefusedBy text (RestNotLast span) = RefusedTree text (RestNotLast span)
 RefusedBy text (Unsafe span op) = RefusedTree text (Unsafe span op)
 RefusedBy text (Room span) = RefusedTree text (Room span)
+RefusedBy text (Value span) = RefusedTree text (Value span)
 RefusedBy text NoMemory = ⊥

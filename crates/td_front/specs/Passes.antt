@@ -11,7 +11,7 @@ use Rattle.td_kinds.specs.KindRules.{kind_faults, first_fault}
 use Rattle.td_expr.specs.declared.safety.Unsafe.TheVariants as finding
 use Rattle.td_arith.specs.SafeModule.{module_unsafe}
 use Rattle.td_front.specs.declared.error.FrontError.{FrontError}
-use Rattle.td_front.specs.declared.error.FrontError.TheVariants.{BadByte, OpenComment, BigNumber, Unexpected, Deep, Limit, Broken, Cycle, ZeroElement, RestNotLast, Unsafe, Room, NoMemory}
+use Rattle.td_front.specs.declared.error.FrontError.TheVariants.{BadByte, OpenComment, BigNumber, Unexpected, Deep, Limit, Broken, Cycle, ZeroElement, RestNotLast, Unsafe, Room, Value, NoMemory}
 
 -- no limit by count is passed
 abbrev pub HasCounts : ModuleTree → Type 0
@@ -50,4 +50,5 @@ RefusesTree tree (ZeroElement span) = HasModule tree × (first_fault (kind_fault
 RefusesTree tree (RestNotLast span) = HasModule tree × (first_fault (kind_faults (module_of tree)) ≡ Some (kind.RestNotLast span))
 RefusesTree tree (Unsafe span op) = HasKinds tree × (module_unsafe (module_of tree) ≡ Some (finding.Operator span op))
 RefusesTree tree (Room span) = HasKinds tree × (module_unsafe (module_of tree) ≡ Some (finding.Room span))
+RefusesTree tree (Value span) = HasKinds tree × (module_unsafe (module_of tree) ≡ Some (finding.Value span))
 RefusesTree tree NoMemory = ⊥

@@ -54,6 +54,9 @@ pub enum FrontError {
     /// A2: what is copied here may pass the room of its buffer.
     #[error("room")]
     Room { span: Span },
+    /// A1: the value of this expression may not fit the field that it is given to.
+    #[error("unsafe =")]
+    Value { span: Span },
     /// There was no memory.
     #[error("out of memory")]
     NoMemory,
@@ -146,6 +149,7 @@ impl From<ArithError> for FrontError {
         match error {
             ArithError::Unsafe { span, op } => FrontError::Unsafe { span, op },
             ArithError::Room { span } => FrontError::Room { span },
+            ArithError::Value { span } => FrontError::Value { span },
             ArithError::NoMemory => FrontError::NoMemory,
         }
     }

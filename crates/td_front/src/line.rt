@@ -87,6 +87,7 @@ pub fn line_of(error: &FrontError) -> Option<ErrorLine>
         FrontError::RestNotLast { span } => (span.from, "K2", "rest not last"),
         FrontError::Unsafe { span, op } => (span.from, "A1", unsafe_words(*op)),
         FrontError::Room { span } => (span.from, "A2", "room"),
+        FrontError::Value { span } => (span.from, "A1", "unsafe ="),
         FrontError::NoMemory => return None,
     };
     Some(ErrorLine { at, code, words })

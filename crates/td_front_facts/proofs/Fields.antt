@@ -2,14 +2,19 @@
 use Rattle.std.proofs.Common.{◌≡◌, ℕ, ◌+◌, ◌≤◌, Bool, true, false, cond, List, [], ◌∷◌, ◌++◌, length, map, Option, Some, None, refl, arith, length-append, slice_get}
 use Rattle.std.specs.List.{sum}
 use Rattle.std.proofs.lemmas.List.Sums.{sum_by-cons}
-use Rattle.td_front_facts.specs.Imports.{NumberType, TypeKind, ExtentTree, Bytes, ByteSize, SingleElement, Zeroterm, Bits, FieldTree, Element, Field, TypeDef, FlatField, OpenUnit, Parameter, Found, Known, Scope}
-use Rattle.td_ast.specs.Trees.{Tree, tree_size}
+use Rattle.td_front_facts.specs.Imports.{NumberType, TypeKind, ExtentTree, Bytes, ByteSize, SingleElement, Zeroterm, Bits, Given, OfCell, FieldTree, Element, Field, TypeDef, FlatField, OpenUnit, Parameter, Found, Known, Scope}
+use Rattle.td_ast.specs.Trees.{Tree, tree_size, span_of}
+use Rattle.td_ast.specs.Trees as tree
 use Rattle.td_ast.specs.declared.fields.TypeKind.TheVariants as type
 use Rattle.td_limits.specs.Nodes as text
 use Rattle.td_core.specs.Term.{Term, measure}
 use Rattle.td_core.specs.declared.module.Element.TheVariants as element
 use Rattle.td_core.specs.declared.module.Part.{Part}
 use Rattle.td_core.specs.Weights.{option_nodes, terms_nodes, element_nodes, extent_nodes, part_nodes, action_nodes, total, inner_nodes, fields_nodes}
+use Rattle.td_core.specs.declared.module.Source.TheVariants.{Expression, Cell as FromCell, Left}
+use Rattle.td_num.specs.Numbers.{bytes_in}
+use Rattle.td_elab_rules.specs.declared.actions.Target.{Target}
+use Rattle.td_elab_rules.specs.declared.actions.Target.TheVariants as target
 use Rattle.td_elab_rules.specs.declared.fields.Readable.{Readable}
 use Rattle.td_elab_rules.specs.declared.known.Parameter.TheVariants as parameter
 use Rattle.td_elab_rules.specs.declared.known.Meaning.TheVariants as meaning
@@ -17,6 +22,8 @@ use Rattle.td_elab_rules.specs.declared.known.Found.TheVariants as found
 use Rattle.td_elab_rules.specs.Known.{found_in, signature_at}
 use Rattle.td_elab_rules.specs.Sorts.{core_of, option_core}
 use Rattle.td_elab_rules.specs.Types.{args_core, args_cells, args_buffers, buffer_cells, fits, applied, found_element, kind_element, element_of}
+use Rattle.td_elab_rules.specs.Actions.{stored_cell}
+use Rattle.td_elab_rules.specs.Given.{is_left, is_shorter, element_number, tree_source, held_source, given_extent}
 use Rattle.td_elab_rules.specs.Extents.{zero_ended, extent_core}
 use Rattle.td_elab_rules.specs.BitFields.{fits_room, unit_bits, part_of, whole_field, unit_field, new_unit, more_bits, room_of, grown, closed, bit_field, gathered}
 use Rattle.td_elab_rules.specs.Fields.{readable_of, with_field, refinement_core, flat_of, flats_of, fields_core}
@@ -76,6 +83,38 @@ zero_nodes element.Unit e = omega arith
 zero_nodes element.Rest e = omega arith
 zero_nodes element.Zeros e = omega arith
 
+-- each expression has a node
+one_node : (e : Tree) → 1 ≤ tree_size e
+one_node (tree.Number at n base) = omega arith
+one_node (tree.Truth at b) = omega arith
+one_node (tree.Name at n) = omega arith
+one_node (tree.FieldPos at own) = omega arith
+one_node (tree.Sizeof at own z place) = omega arith
+one_node (tree.RangeOkay at z o a) = omega arith
+one_node (tree.Unary at op own a) = omega arith
+one_node (tree.Binary at op own a b) = omega arith
+one_node (tree.Choice at own c a b) = omega arith
+
+tree_nodes : (k : Known) (s : Scope) (o : Option NumberType) (e : Tree) → extent_nodes (given_extent (tree_source k s o e)) ≤ tree_size e
+tree_nodes k s None e = omega arith
+tree_nodes k s (Some t) e = by (is_left e) (is_shorter (Some t) 4)
+  where
+    by : (left short : Bool) → extent_nodes (given_extent (cond left (cond short None (Some Left)) (Some (Expression (span_of e) (core_of k s e))))) ≤ tree_size e
+    by true true = omega arith
+    by true false = one_node e
+    by false short = core_nodes k s e
+
+held_nodes : (o : Option NumberType) (c : Target) → extent_nodes (given_extent (held_source o c)) ≡ 0
+held_nodes None c = refl
+held_nodes (Some t) target.Unknown = refl
+held_nodes (Some t) target.NoCell = refl
+held_nodes (Some t) (target.Number c u) = by (is_shorter (Some t) (bytes_in u.width))
+  where
+    by : (short : Bool) → extent_nodes (given_extent (cond short None (Some (FromCell c)))) ≡ 0
+    by true = refl
+    by false = refl
+held_nodes (Some t) (target.Pointer c) = refl
+
 size_nodes : (k : Known) (s : Scope) (x : Element) (o : Option ExtentTree) → extent_nodes (extent_core k s x o) ≤ text.extent_nodes o
 size_nodes k s x None = omega arith
 size_nodes k s x (Some (Bytes e)) = core_nodes k s e
@@ -83,6 +122,8 @@ size_nodes k s x (Some (ByteSize e)) = core_nodes k s e
 size_nodes k s x (Some (SingleElement e)) = core_nodes k s e
 size_nodes k s x (Some (Zeroterm e)) = omega (arith, zero_nodes x (core_of k s e), core_nodes k s e)
 size_nodes k s x (Some (Bits n)) = omega arith
+size_nodes k s x (Some (Given e)) = tree_nodes k s (element_number x) e
+size_nodes k s x (Some (OfCell star p)) = omega (arith, held_nodes (element_number x) (stored_cell k s p))
 
 -- ---- fields before bit fields are gathered
 

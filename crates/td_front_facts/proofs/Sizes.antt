@@ -1,6 +1,6 @@
 -- Core fields are no deeper and no heavier than the fields of the tree, where earlier definitions aren't.
 use Rattle.std.proofs.Common.{◌≡◌, ℕ, ◌+◌, ◌*◌, ◌≤◌, Bool, true, false, cond, max, List, [], ◌∷◌, ◌++◌, length, map, Option, Some, None, refl, arith, length-append, slice_get}
-use Rattle.td_front_facts.specs.Imports.{NumberType, TypeKind, ExtentTree, Bytes, ByteSize, SingleElement, Zeroterm, Bits, FieldTree, CaseTree, Element, Field, TypeDef, FlatField, OpenUnit, Meaning, Local, Found, Known, Scope}
+use Rattle.td_front_facts.specs.Imports.{NumberType, TypeKind, ExtentTree, Bytes, ByteSize, SingleElement, Zeroterm, Bits, Given, OfCell, FieldTree, CaseTree, Element, Field, TypeDef, FlatField, OpenUnit, Meaning, Local, Found, Known, Scope}
 use Rattle.td_ast.specs.Trees.{Tree}
 use Rattle.td_ast.specs.declared.fields.TypeKind.TheVariants as type
 use Rattle.td_names.specs.Names.{looked_up}
@@ -13,13 +13,16 @@ use Rattle.td_limits.specs.Weights as weights
 use Rattle.td_core.specs.Term.{Term}
 use Rattle.td_core.specs.declared.module.Element.TheVariants as element
 use Rattle.td_core.specs.declared.module.Extent.{Extent}
-use Rattle.td_core.specs.declared.module.Extent.TheVariants.{Once, Filling, OnceFilling, UpToZero}
+use Rattle.td_core.specs.declared.module.Extent.TheVariants.{Once, Filling, OnceFilling, UpToZero, Given as GivenBy}
+use Rattle.td_core.specs.declared.module.Source.{Source}
 use Rattle.td_core.specs.Weights.{of_named, as_array, fields_depth, cases_depth, default_depth, part_nodes, total, inner_nodes, field_weight, fields_weight, cases_weight, default_weight}
 use Rattle.td_elab_rules.specs.declared.known.Meaning.TheVariants as meaning
 use Rattle.td_elab_rules.specs.declared.known.Found.TheVariants as found
 use Rattle.td_elab_rules.specs.Known.{found_in, local_found, global_found, signature_at}
 use Rattle.td_elab_rules.specs.Sorts.{core_of}
 use Rattle.td_elab_rules.specs.Types.{args_core, args_cells, args_buffers, buffer_cells, fits, applied, found_element, kind_element}
+use Rattle.td_elab_rules.specs.Actions.{stored_cell}
+use Rattle.td_elab_rules.specs.Given.{element_number, tree_source, held_source, given_extent}
 use Rattle.td_elab_rules.specs.Extents.{zero_ended, extent_core}
 use Rattle.td_elab_rules.specs.BitFields.{fits_room, unit_bits, part_of, whole_field, new_unit, room_of, grown, closed, bit_field, gathered}
 use Rattle.td_elab_rules.specs.Fields.{with_field, flat_of, flats_of, fields_core}
@@ -33,12 +36,14 @@ as_array_le Once a b le = le
 as_array_le (Filling size step) a b le = omega (arith, le)
 as_array_le (OnceFilling size step) a b le = omega (arith, le)
 as_array_le (UpToZero size) a b le = omega (arith, le)
+as_array_le (GivenBy source) a b le = le
 
 as_array_more : (e : Extent) (a : ℕ) → a ≤ as_array e a
 as_array_more Once a = omega arith
 as_array_more (Filling size step) a = omega arith
 as_array_more (OnceFilling size step) a = omega arith
 as_array_more (UpToZero size) a = omega arith
+as_array_more (GivenBy source) a = omega arith
 
 zero_array : (x : Element) (e : Term) (a b : ℕ) → a ≤ b → as_array (zero_ended x e) a ≤ 2 * b + 64
 zero_array (element.Number t) e a b le = omega (arith, le)
@@ -48,6 +53,10 @@ zero_array element.Unit e a b le = omega (arith, le)
 zero_array element.Rest e a b le = omega (arith, le)
 zero_array element.Zeros e a b le = omega (arith, le)
 
+given_array : (o : Option Source) (a b : ℕ) → a ≤ b → as_array (given_extent o) a ≤ b
+given_array None a b le = le
+given_array (Some source) a b le = le
+
 core_array : (k : Known) (s : Scope) (x : Element) (o : Option ExtentTree) (a b : ℕ) → a ≤ b → as_array (extent_core k s x o) a ≤ weights.in_array (is_array o) b
 core_array k s x None a b le = le
 core_array k s x (Some (Bytes e)) a b le = omega (arith, le)
@@ -55,6 +64,8 @@ core_array k s x (Some (ByteSize e)) a b le = omega (arith, le)
 core_array k s x (Some (SingleElement e)) a b le = omega (arith, le)
 core_array k s x (Some (Zeroterm e)) a b le = zero_array x (core_of k s e) a b le
 core_array k s x (Some (Bits n)) a b le = le
+core_array k s x (Some (Given e)) a b le = given_array (tree_source k s (element_number x) e) a b le
+core_array k s x (Some (OfCell star p)) a b le = given_array (held_source (element_number x) (stored_cell k s p)) a b le
 
 -- ---- what a name at a type's place takes
 

@@ -13,6 +13,9 @@ use Rattle.td_core.specs.Sizes.{IsStepOf, HasSteps, IsFieldStepped}
 use Rattle.td_elab_rules.specs.Known.{nothing_known}
 use Rattle.td_elab_rules.specs.Sorts.{core_of}
 use Rattle.td_elab_rules.specs.Types.{element_of}
+use Rattle.td_core.specs.declared.module.Source.{Source}
+use Rattle.td_elab_rules.specs.Actions.{stored_cell}
+use Rattle.td_elab_rules.specs.Given.{element_number, tree_source, held_source, given_extent}
 use Rattle.td_elab_rules.specs.Extents.{step_of, zero_ended, extent_core}
 use Rattle.td_elab_rules.specs.Fields.{with_field, flats_of, fields_core}
 use Rattle.td_elab_rules.specs.Enums.{next_value, item_value, with_item, items_after, with_enum_name}
@@ -51,6 +54,10 @@ zero_stepped element.Unit z = tt
 zero_stepped element.Rest z = tt
 zero_stepped element.Zeros z = tt
 
+given_stepped : (e : Element) (o : Option Source) → HasSteps e (given_extent o)
+given_stepped e None = tt
+given_stepped e (Some source) = tt
+
 extent_stepped : (k : Known) (s : Scope) (e : Element) (x : Option ExtentTree) → HasSteps e (extent_core k s e x)
 extent_stepped k s e None = tt
 extent_stepped k s e (Some (after_name.Bytes z)) = step_is k e
@@ -58,6 +65,8 @@ extent_stepped k s e (Some (after_name.ByteSize z)) = step_is k e
 extent_stepped k s e (Some (after_name.SingleElement z)) = step_is k e
 extent_stepped k s e (Some (after_name.Zeroterm z)) = zero_stepped e (core_of k s z)
 extent_stepped k s e (Some (after_name.Bits n)) = tt
+extent_stepped k s e (Some (after_name.Given z)) = given_stepped e (tree_source k s (element_number e) z)
+extent_stepped k s e (Some (after_name.OfCell star p)) = given_stepped e (held_source (element_number e) (stored_cell k s p))
 
 flats_stepped : (names : List (List ℕ)) (k : Known) (s : Scope) (fs : List FieldTree) → Each (λ x. HasSteps x.element x.extent) (flats_of names k s fs)
 flats_stepped names k s [] = tt

@@ -9,7 +9,7 @@ use Rattle.td_ast.specs.declared.fields.TypeKind.{TypeKind}
 use Rattle.td_ast.specs.declared.fields.TypeKind.TheVariants as type
 use Rattle.td_ast.specs.declared.fields.TypeTree.{TypeTree}
 use Rattle.td_ast.specs.declared.fields.ExtentTree.{ExtentTree}
-use Rattle.td_ast.specs.declared.fields.ExtentTree.TheVariants.{Bytes, ByteSize, SingleElement, Zeroterm, Bits}
+use Rattle.td_ast.specs.declared.fields.ExtentTree.TheVariants.{Bytes, ByteSize, SingleElement, Zeroterm, Bits, Given, OfCell}
 use Rattle.td_ast.specs.declared.fields.FieldTree.{FieldTree}
 use Rattle.td_ast.specs.declared.parameters.HeadTree.{HeadTree}
 use Rattle.td_ast.specs.declared.parameters.ParamTree.{ParamTree}
@@ -25,7 +25,7 @@ use Rattle.td_ast.specs.declared.parts.PartTree.{PartTree}
 use Rattle.td_names.specs.Names.{with_name}
 use Rattle.td_front_flat.specs.declared.own.Own.{Own}
 use Rattle.td_front_flat.specs.Names.{of_part, meant}
-use Rattle.td_front_flat.specs.Expressions.{used_name, given_name, flat_tree, flat_option, flat_action}
+use Rattle.td_front_flat.specs.Expressions.{used_name, given_name, flat_tree, flat_given, flat_option, flat_action}
 
 -- the name of a definition, a constant or a member where it is defined
 abbrev pub defined_name : Own → Name → Name
@@ -89,6 +89,8 @@ flat_extent own scope (Some (ByteSize e)) = Some (ByteSize (flat_tree own scope 
 flat_extent own scope (Some (SingleElement e)) = Some (SingleElement (flat_tree own scope e))
 flat_extent own scope (Some (Zeroterm e)) = Some (Zeroterm (flat_tree own scope e))
 flat_extent own scope (Some (Bits n)) = Some (Bits n)
+flat_extent own scope (Some (Given e)) = Some (Given (flat_given own scope e))
+flat_extent own scope (Some (OfCell star n)) = Some (OfCell star (used_name own scope n))
 
 abbrev pub with_field : List (List ℕ) → FieldTree → List (List ℕ)
 with_field scope f = with_name scope f.name.text

@@ -1,5 +1,5 @@
 -- Expressions and actions of a part, with the names that they have in the whole text (own rule).
-use Rattle.std.specs.Prelude.{ℕ, Bool, false, ◌&&◌, not, cond, List, [], ◌∷◌, Option, Some, None}
+use Rattle.std.specs.Prelude.{ℕ, Bool, false, ◌&&◌, not, cond, List, [], ◌∷◌, Option, Some, None, codes}
 use Rattle.std.specs.List.{list_any}
 use Rattle.std.specs.Str.{bytes_eq}
 use Rattle.td_ast.specs.declared.names.Name.{Name}
@@ -46,6 +46,22 @@ flat_tree own scope (tree.Choice at word c a b) = tree.Choice at word (flat_tree
 abbrev pub flat_option : Own → List (List ℕ) → Option Tree → Option Tree
 flat_option own scope None = None
 flat_option own scope (Some e) = Some (flat_tree own scope e)
+
+-- `bytes_left`, where it is all of an expression
+abbrev pub is_left : Tree → Bool
+is_left (tree.Number at n base) = false
+is_left (tree.Truth at b) = false
+is_left (tree.Name at n) = bytes_eq n.text (codes "bytes_left")
+is_left (tree.FieldPos at word) = false
+is_left (tree.Sizeof at word z place) = false
+is_left (tree.RangeOkay at a b c) = false
+is_left (tree.Unary at op word a) = false
+is_left (tree.Binary at op word a b) = false
+is_left (tree.Choice at word c a b) = false
+
+-- what stands behind a field's `=`: there `bytes_left` is no name, and stays
+abbrev pub flat_given : Own → List (List ℕ) → Tree → Tree
+flat_given own scope e = cond (is_left e) e (flat_tree own scope e)
 
 -- Actions, in a definition with these parameters
 

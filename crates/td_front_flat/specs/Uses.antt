@@ -15,7 +15,7 @@ use Rattle.td_ast.specs.declared.actions.ActionTree.TheVariants.{Done, Copied}
 use Rattle.td_ast.specs.declared.fields.TypeKind.{TypeKind}
 use Rattle.td_ast.specs.declared.fields.TypeKind.TheVariants as type
 use Rattle.td_ast.specs.declared.fields.ExtentTree.{ExtentTree}
-use Rattle.td_ast.specs.declared.fields.ExtentTree.TheVariants.{Bytes, ByteSize, SingleElement, Zeroterm, Bits}
+use Rattle.td_ast.specs.declared.fields.ExtentTree.TheVariants.{Bytes, ByteSize, SingleElement, Zeroterm, Bits, Given, OfCell}
 use Rattle.td_ast.specs.declared.fields.FieldTree.{FieldTree}
 use Rattle.td_ast.specs.declared.parameters.HeadTree.{HeadTree}
 use Rattle.td_ast.specs.declared.parameters.ParamTree.{ParamTree}
@@ -120,6 +120,8 @@ size_uses (ByteSize e) = tree_uses e
 size_uses (SingleElement e) = tree_uses e
 size_uses (Zeroterm e) = tree_uses e
 size_uses (Bits n) = []
+size_uses (Given e) = tree_uses e
+size_uses (OfCell star n) = []
 
 abbrev pub extent_uses : Option ExtentTree → List Name
 extent_uses None = []

@@ -1,12 +1,14 @@
 //! Expressions as they stand in the whole text.
 
-ghost use Rattle.std.specs.Prelude.{◌≡◌, map, IfOk};
+ghost use Rattle.std.specs.Prelude.{◌≡◌, cond, codes, map, IfOk};
+ghost use Rattle.std.specs.Str.{bytes_eq};
 ghost use Rattle.td_front_flat.specs.Expressions as specs;
 
-use crate::names::{meant, used_name};
+use crate::names::{copied_name, meant, used_name};
 use crate::own::Own;
 use std::alloc::{AllocError, Global};
 use td_ast::expressions::{Expr, ExprKind, SizeofOperand};
+use td_ast::names::Name;
 use td_names::names::Names;
 use td_num::items::Items;
 
@@ -105,6 +107,37 @@ pub(crate) fn flat_tree(
         }
     };
     Ok(Expr { span: e.span, kind })
+}
+
+// A name that is all that stands behind a field's `=`: `bytes_left` stays.
+fn given_word(alloc: Global, own: &Own, scope: &Names, name: &Name) -> Result<Name, AllocError>
+    ensures { IfOk result (λ n. n ≡ cond (bytes_eq name.now.text (codes "bytes_left")) name.now (specs.used_name own.now scope.now name.now)) }
+{
+    if name.text.as_slice() == b"bytes_left".as_slice() {
+        return copied_name(alloc, name);
+    }
+    used_name(alloc, own, scope, name)
+}
+
+/// What stands behind a field's `=`, as it stands in the whole text. `AllocError`: out of memory.
+pub(crate) fn flat_given(
+    alloc: Global,
+    own: &Own,
+    scope: &Names,
+    e: &Expr,
+) -> Result<Expr, AllocError>
+    ensures { IfOk result (λ flat. flat ≡ specs.flat_given own.now scope.now e.now) }
+{
+    match &e.kind {
+        ExprKind::Name(name) => {
+            let name = given_word(alloc, own, scope, name)?;
+            Ok(Expr {
+                span: e.span,
+                kind: ExprKind::Name(name),
+            })
+        }
+        _ => flat_tree(alloc, own, scope, e),
+    }
 }
 
 /// The same, where there is one.

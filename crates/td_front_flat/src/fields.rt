@@ -5,8 +5,8 @@ ghost use Rattle.td_front_flat.specs.Definitions as specs;
 ghost use Rattle.td_front_flat.specs.Expressions as expressions;
 
 use crate::actions::flat_action;
-use crate::expressions::{flat_option, flat_tree, flat_trees};
-use crate::names::{given_name, meant};
+use crate::expressions::{flat_given, flat_option, flat_tree, flat_trees};
+use crate::names::{given_name, meant, used_name};
 use crate::own::Own;
 use std::alloc::{AllocError, Global};
 use td_ast::actions::ActionTree;
@@ -69,6 +69,10 @@ fn flat_size(
         }
         ExtentTree::Zeroterm(e) => ExtentTree::Zeroterm(flat_tree(alloc, own, scope, e)?),
         ExtentTree::Bits(literal) => ExtentTree::Bits(*literal),
+        ExtentTree::Given(e) => ExtentTree::Given(flat_given(alloc, own, scope, e)?),
+        ExtentTree::OfCell(star, cell) => {
+            ExtentTree::OfCell(*star, used_name(alloc, own, scope, cell)?)
+        }
     })
 }
 

@@ -270,6 +270,8 @@ fn add_size(alloc: Global, uses: &mut Items<Name>, extent: &ExtentTree) -> Resul
         ExtentTree::SingleElement(e) => add_tree(alloc, uses, e),
         ExtentTree::Zeroterm(e) => add_tree(alloc, uses, e),
         ExtentTree::Bits(_) => Ok(()),
+        ExtentTree::Given(e) => add_tree(alloc, uses, e),
+        ExtentTree::OfCell(_, _) => Ok(()),
     }
 }
 

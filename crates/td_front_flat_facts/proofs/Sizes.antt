@@ -1,10 +1,10 @@
 -- A flat definition has as many nodes, fields, cases, parameters and statements as the written one.
-use Rattle.std.proofs.Common.{◌≡◌, ℕ, ◌+◌, max, List, [], ◌∷◌, Option, Some, None, map, length, sum, refl, ap, ap₂, arith}
+use Rattle.std.proofs.Common.{◌≡◌, ℕ, ◌+◌, max, Bool, true, false, cond, List, [], ◌∷◌, Option, Some, None, map, length, sum, refl, ap, ap₂, arith}
 use Rattle.std.proofs.lemmas.List.{length-map}
 use Rattle.td_ast.specs.declared.fields.TypeKind.{TypeKind}
 use Rattle.td_ast.specs.declared.fields.TypeKind.TheVariants as type
 use Rattle.td_ast.specs.declared.fields.ExtentTree.{ExtentTree}
-use Rattle.td_ast.specs.declared.fields.ExtentTree.TheVariants.{Bytes, ByteSize, SingleElement, Zeroterm, Bits}
+use Rattle.td_ast.specs.declared.fields.ExtentTree.TheVariants.{Bytes, ByteSize, SingleElement, Zeroterm, Bits, Given, OfCell}
 use Rattle.td_front_flat_facts.specs.Imports.{FieldTree, ParamTree, CaseTree, Def, Define, Enum, Alias, Struct, Casetype, Output, Own}
 use Rattle.td_ast.specs.declared.actions.Assigned.{Assigned}
 use Rattle.td_ast.specs.declared.actions.Assigned.TheVariants.{Value, FieldPtr}
@@ -13,7 +13,7 @@ use Rattle.td_ast.specs.declared.actions.ActionTree.TheVariants.{Done, Copied}
 use Rattle.td_ast.specs.Trees.{Tree, tree_size}
 use Rattle.td_ast.specs.Trees as tree
 use Rattle.td_ast.specs.Statements.{Statement, Store, StoreField, Var, If, IfElse, Return, Abort, Statements, End, More, block_of}
-use Rattle.td_front_flat.specs.Expressions.{flat_tree, flat_option, flat_assigned, scope_after, flat_statement, flat_block, flat_statements, flat_action}
+use Rattle.td_front_flat.specs.Expressions.{flat_tree, is_left, flat_given, flat_option, flat_assigned, scope_after, flat_statement, flat_block, flat_statements, flat_action}
 use Rattle.td_front_flat.specs.Definitions.{flat_params, with_param, flat_kind, flat_extent, flat_field, flat_fields, with_field, flat_item, flat_case, flat_default, flat_slot, flat_definition, head_scope}
 use Rattle.td_limits.specs.Excesses.{greatest}
 use Rattle.td_limits.specs.Nodes.{option_nodes, assigned_nodes, statement_nodes, block_nodes, action_nodes, kind_nodes, extent_nodes, inner_nodes, fields_nodes, default_nodes, definition_nodes}
@@ -74,6 +74,13 @@ module _ (own : Own) where
   kind_same scope type.AllZeros = refl
   kind_same scope (type.Named n args) = ap sum (map_same tree_size (flat_tree own scope) (tree_same scope) args)
 
+  given_same : (scope : List (List ℕ)) (e : Tree) → tree_size (flat_given own scope e) ≡ tree_size e
+  given_same scope e = by_test (is_left e)
+    where
+      by_test : (b : Bool) → tree_size (cond b e (flat_tree own scope e)) ≡ tree_size e
+      by_test true = refl
+      by_test false = tree_same scope e
+
   extent_same : (scope : List (List ℕ)) (o : Option ExtentTree) → extent_nodes (flat_extent own scope o) ≡ extent_nodes o
   extent_same scope None = refl
   extent_same scope (Some (Bytes e)) = tree_same scope e
@@ -81,6 +88,8 @@ module _ (own : Own) where
   extent_same scope (Some (SingleElement e)) = tree_same scope e
   extent_same scope (Some (Zeroterm e)) = tree_same scope e
   extent_same scope (Some (Bits n)) = refl
+  extent_same scope (Some (Given e)) = given_same scope e
+  extent_same scope (Some (OfCell star n)) = refl
 
   inner_same : (params : List ParamTree) (scope : List (List ℕ)) (f : FieldTree) → inner_nodes (flat_field own params scope f) ≡ inner_nodes f
   inner_same params scope f =

@@ -8,7 +8,7 @@ use Rattle.td_grammar.specs.Listed.{listed}
 use Rattle.td_grammar.specs.Tokens.{dotted, qualified, constant, plain}
 use Rattle.td_grammar.specs.Sequences.{some_of, in_parentheses}
 use Rattle.td_grammar.specs.Parameters.{is_byte, target, room, bytes, cell, place, param, head}
-use Rattle.td_grammar.specs.Fields.{type_tree, extent, refinement, field}
+use Rattle.td_grammar.specs.Fields.{type_tree, source, extent, refinement, field}
 use Rattle.td_grammar.specs.Definitions.{closing, enum_head, subject, default_case, cases, case_tree, item, slot, define, enumeration, struct_rest, casetype, alias_rest, typedef, entrypoint, output, def, module_text}
 use Rattle.td_grammar.proofs.Exact.{IsExact}
 use Rattle.td_grammar.proofs.Proper.{IsProper, terminal_proper, name_proper, literal_proper, number_type_proper, expr_proper, action_proper, sequel, making_proper, or_proper, either_proper, maybe_proper, all_proper, listed_proper}
@@ -72,21 +72,26 @@ type_tree_proper =
     (or_proper _ _ (making_proper _ _ (terminal_proper kinds.AllZeros refl))
     (making_proper _ _ (sequel qualified_proper arguments_proper refl)) refl refl refl) refl refl refl) refl refl refl) refl refl refl
 
+source_proper : IsProper source
+unfolding source expr
+source_proper = or_proper _ _ (making_proper _ _ (sequel (terminal_proper kinds.Star refl) name_proper refl)) (making_proper _ _ expr_proper) refl refl refl
+
 extent_proper : IsProper extent
-unfolding extent expr
+unfolding extent source expr
 extent_proper =
     or_proper _ _ (making_proper _ _ (sequel (terminal_proper kinds.OpenBracket refl) (sequel expr_proper (terminal_proper kinds.CloseBracket refl) refl) refl))
     (or_proper _ _ (making_proper _ _ (sequel (terminal_proper kinds.ByteSize refl) (sequel expr_proper (terminal_proper kinds.CloseBracket refl) refl) refl))
     (or_proper _ _ (making_proper _ _ (sequel (terminal_proper kinds.SingleElement refl) (sequel expr_proper (terminal_proper kinds.CloseBracket refl) refl) refl))
     (or_proper _ _ (making_proper _ _ (sequel (terminal_proper kinds.Zeroterm refl) (sequel expr_proper (terminal_proper kinds.CloseBracket refl) refl) refl))
-    (making_proper _ _ (sequel (terminal_proper kinds.Colon refl) literal_proper refl)) refl refl refl) refl refl refl) refl refl refl) refl refl refl
+    (or_proper _ _ (making_proper _ _ (sequel (terminal_proper kinds.Colon refl) literal_proper refl))
+    (making_proper _ _ (sequel (terminal_proper kinds.Assign refl) source_proper refl)) refl refl refl) refl refl refl) refl refl refl) refl refl refl) refl refl refl
 
 refinement_proper : IsProper refinement
 unfolding refinement expr
 refinement_proper = making_proper _ _ (sequel (terminal_proper kinds.OpenBrace refl) (sequel expr_proper (terminal_proper kinds.CloseBrace refl) refl) refl)
 
 field_proper : IsProper field
-unfolding field type_tree extent refinement action expr
+unfolding field type_tree extent source refinement action expr
 field_proper =
     making_proper _ _ (sequel type_tree_proper (sequel name_proper (sequel (maybe_proper _ extent_proper refl) (sequel (maybe_proper _ refinement_proper refl)
     (sequel (maybe_proper _ action_proper refl) (terminal_proper kinds.Semicolon refl) refl) refl) refl) refl) refl)

@@ -1,5 +1,4 @@
--- What is read can be written: code of version 2, and that of version 1, upgraded, is within the limits of the version that is
--- written.
+-- What is read can be written: code of version 2 and 3, and that of version 1, upgraded, is within the limits of version 4.
 use Rattle.std.proofs.Common.{◌≡◌, ℕ, zero, suc, ◌-◌, ◌^◌, ◌≤◌, ◌<◌, Bool, true, false, ◌&&◌, ◌||◌, not, List, [], ◌∷◌, length, map, take, drop, refl, sym, subst, ◌∙◌, arith}
 use Rattle.std.specs.Prelude.{nat_le, nat_lt, ◌==◌, cond}
 use Rattle.std.proofs.lemmas.Bool.{leb-true, le-leb}
@@ -17,7 +16,7 @@ use Rattle.std.proofs.lemmas.List.{length-take}
 use Rattle.td_image_upgrade.proofs.Places.{place_within}
 use Rattle.td_image.specs.declared.limits.TheConstants.{MOST_ROWS, FIRST_ROWS, MOST_INSTRUCTIONS, FIRST_INSTRUCTIONS, MOST_NUMBERS, FIRST_NUMBERS, MOST_MAPPED}
 use Rattle.td_image.specs.declared.version.ImageVersion.{ImageVersion}
-use Rattle.td_image.specs.declared.version.ImageVersion.TheVariants.{First, Second, Third}
+use Rattle.td_image.specs.declared.version.ImageVersion.TheVariants.{First, Second, Third, Fourth}
 use Rattle.td_image.specs.Versions.{most_mapped}
 use Rattle.td_image.specs.declared.version.Spelled.{Spelled}
 use Rattle.td_image.specs.declared.routines.Room.{Room}
@@ -31,6 +30,7 @@ use Rattle.td_image.specs.Answer.{written, code_of, code_in}
 use Rattle.td_image.proofs.Within.{instruction_fits, each_fits, site_fits, most_fits}
 use Rattle.td_num.proofs.Lists.{each_by as each_at}
 use Rattle.td_image.proofs.Fitting.{FitsAs, is_divided, fit_in}
+use Rattle.td_image.proofs.Written.{as_written}
 use Rattle.td_num.proofs.Lists.{each_append}
 use Rattle.td_num.proofs.Truths.{both_true as both}
 
@@ -95,8 +95,9 @@ module _ (g : ℕ → ℕ) (G : (k : ℕ) → g k < 2 ^ 32) where
   renumbered_small (i.Set source cell) h = h
   renumbered_small i.Mark h = h
   renumbered_small (i.Copy size buffer site) h = record { x = h.x; a = h.a; b = h.b; c = h.c; t = h.t; site = G site; k = h.k }
+  renumbered_small (i.Left into) h = h
 
-  renumbered_fits : (v : ImageVersion) (j : Instr) → (format.instruction v).Fits j → (format.instruction Third).Fits (renumbered g j)
+  renumbered_fits : (v : ImageVersion) (j : Instr) → (format.instruction v).Fits j → (format.instruction Fourth).Fits (renumbered g j)
   renumbered_fits v j h = instruction_fits (renumbered g j) (renumbered_small j (small_of v j h))
 
 module _ (p : Parts) (D : IsDivided p) where
@@ -114,11 +115,11 @@ module _ (p : Parts) (D : IsDivided p) where
       let at = place_within k (used_by p n) in
       number_by (nat_lt k (length p.sites)) _ (omega (arith, u, c, b, s, w, at, D.few))
 
-  code_fits : (r : ℕ) → r ≤ length p.routines → Each (format.instruction First).Fits p.instructions → Each (format.instruction Third).Fits (code_below p r)
+  code_fits : (r : ℕ) → r ≤ length p.routines → Each (format.instruction First).Fits p.instructions → Each (format.instruction Fourth).Fits (code_below p r)
   code_fits zero le h = tt
   code_fits (suc r) le h =
-      each_append (format.instruction Third).Fits (code_below p r) (own_code p r) (code_fits r (omega (arith, le)) h)
-      (each_map_to (format.instruction First).Fits (format.instruction Third).Fits (renumbered (number_in p r)) (renumbered_fits (number_in p r) (number_small r (omega (arith, le))) First) (routine_code p r)
+      each_append (format.instruction Fourth).Fits (code_below p r) (own_code p r) (code_fits r (omega (arith, le)) h)
+      (each_map_to (format.instruction First).Fits (format.instruction Fourth).Fits (renumbered (number_in p r)) (renumbered_fits (number_in p r) (number_small r (omega (arith, le))) First) (routine_code p r)
       (each_take (format.instruction First).Fits (end_of p r - first_of p r) (drop (first_of p r) p.instructions) (each_drop (format.instruction First).Fits (first_of p r) p.instructions h)))
 
 -- ---- larger limits
@@ -133,7 +134,7 @@ sets_more left more (xs ∷ xss) le h =
     let l = leb-true (length xs) left h.0.0.1 in
     (((h.0.0.0, le-leb (length xs) more (omega (arith, l, le))), h.0.1), sets_more (left - length xs) (more - length xs) xss (omega (arith, le)) h.1)
 
--- ---- what fits in a version fits in the version that is written
+-- ---- what fits in a version fits in version 4
 
 all_more : {S A : Type 0} (f g : S → Format A) (next : S → A → S) → ((s : S) (x : A) → (f s).Fits x → (g s).Fits x) → (s : S) (xs : List A) → all_fit f next s xs → all_fit g next s xs
 unfolding all_fit
@@ -147,33 +148,35 @@ few_mapped : (v : ImageVersion) (n : ℕ) → n ≤ most_mapped v → n ≤ MOST
 few_mapped First n le = omega (arith, le)
 few_mapped Second n le = omega (arith, le)
 few_mapped Third n le = le
+few_mapped Fourth n le = le
 
-map_more : (v : ImageVersion) (mapped : List ℕ) → (format.map_format v).Fits mapped → (format.map_format Third).Fits mapped
+map_more : (v : ImageVersion) (mapped : List ℕ) → (format.map_format v).Fits mapped → (format.map_format Fourth).Fits mapped
 unfolding format.map_format
 map_more v mapped h = ((h.0.0, le-leb (length mapped) MOST_MAPPED (few_mapped v (length mapped) (leb-true (length mapped) (most_mapped v) h.0.1))), h.1)
 
-no_buffers : (rooms : List ℕ) → rooms ≡ [] → (format.buffers Third).Fits rooms
+no_buffers : (rooms : List ℕ) → rooms ≡ [] → (format.buffers Fourth).Fits rooms
 unfolding format.rooms all_fit
 no_buffers [] e = ((omega arith, refl), (refl, tt))
 no_buffers (x ∷ xs) e = absurd (cc e)
 
-buffers_more : (v : ImageVersion) (rooms : List ℕ) → (format.buffers v).Fits rooms → (format.buffers Third).Fits rooms
+buffers_more : (v : ImageVersion) (rooms : List ℕ) → (format.buffers v).Fits rooms → (format.buffers Fourth).Fits rooms
 buffers_more First rooms h = no_buffers rooms h
 buffers_more Second rooms h = no_buffers rooms h
 buffers_more Third rooms h = h
+buffers_more Fourth rooms h = h
 
-routine_more : (v : ImageVersion) (names : ℕ) (room : Room) (r : Routine) → (format.routine v names room).Fits r → (format.routine Third names room).Fits r
+routine_more : (v : ImageVersion) (names : ℕ) (room : Room) (r : Routine) → (format.routine v names room).Fits r → (format.routine Fourth names room).Fits r
 unfolding format.routine
 routine_more v names room r (name, (params, (cells, (registers, (l, buffers))))) = (name, (params, (cells, (registers, (l, buffers_more v r.buffers buffers)))))
 
-instruction_more : (v : ImageVersion) (j : Instr) → (format.instruction v).Fits j → (format.instruction Third).Fits j
+instruction_more : (v : ImageVersion) (j : Instr) → (format.instruction v).Fits j → (format.instruction Fourth).Fits j
 instruction_more v j h = instruction_fits j (small_of v j h)
 
-name_more : (seen : List (List ℕ)) (name : List ℕ) → (format.name Second seen).Fits name → (format.name Third seen).Fits name
+name_more : (seen : List (List ℕ)) (name : List ℕ) → (format.name Second seen).Fits name → (format.name Fourth seen).Fits name
 unfolding format.name
 name_more seen name h = h
 
-site_more : (names routines : ℕ) (s : Site) → (format.site Second names routines).Fits s → (format.site Third names routines).Fits s
+site_more : (names routines : ℕ) (s : Site) → (format.site Second names routines).Fits s → (format.site Fourth names routines).Fits s
 unfolding format.site
 site_more names routines s h = h
 
@@ -185,12 +188,12 @@ name_again name rest more h = by (is_name name) rest h
     by true r e = e
     by false r e = absurd cc
 
-names_again : (seen xs : List (List ℕ)) → all_fit (format.name First) with_name seen xs → all_fit (format.name Third) with_name seen xs
+names_again : (seen xs : List (List ℕ)) → all_fit (format.name First) with_name seen xs → all_fit (format.name Fourth) with_name seen xs
 unfolding all_fit format.name
 names_again seen [] h = tt
 names_again seen (x ∷ xs) h = ((h.0.0, (h.0.1.0, name_again x (not (is_seen seen x)) (are_two_names x) h.0.1.1)), names_again (with_name seen x) xs h.1)
 
-upgraded_with : (p : Parts) → IsDivided p → IsCode (upgraded p) → FitsAs First p → FitsAs Third (upgraded p)
+upgraded_with : (p : Parts) → IsDivided p → IsCode (upgraded p) → FitsAs First p → FitsAs Fourth (upgraded p)
 unfolding format.image format.header
 upgraded_with p D C ((m, (o, (z, (n, (s, (a, (t, (r, (e, i))))))))), (names, (sites, (maps, (sets, (routines, (entries, instructions))))))) =
     let ns = length p.names in
@@ -204,31 +207,31 @@ upgraded_with p D C ((m, (o, (z, (n, (s, (a, (t, (r, (e, i))))))))), (names, (si
     let row : length (sites_below p rs) ≤ MOST_ROWS = omega (arith, sites_few, D.whole, few) in
     let ns_few = leb-true ns FIRST_ROWS n.1 in
     let rs_few = leb-true rs FIRST_ROWS r.1 in
-    let new = each_at (format.site Third ns rs).Fits (sites_below p rs) _ (λ k lt. site_fits ns rs (site_of (upgraded p) k) (omega (arith, ns_few)) (omega (arith, rs_few)) (C.sites k lt)) in
-    let own = all_more (format.routine First ns) (format.routine Third ns) format.after_routine (routine_more First ns) (record { left = length p.instructions; more = rs }) p.routines routines.1 in
-    let mapped = times_more (format.map_format First) (format.map_format Third) (map_more First) p.maps maps.1 in
-    let left = subst (λ (l : ℕ). all_fit (format.routine Third ns) format.after_routine (record { left = l; more = rs }) p.routines) (sym same) own in (
+    let new = each_at (format.site Fourth ns rs).Fits (sites_below p rs) _ (λ k lt. site_fits ns rs (site_of (upgraded p) k) (omega (arith, ns_few)) (omega (arith, rs_few)) (C.sites k lt)) in
+    let own = all_more (format.routine First ns) (format.routine Fourth ns) format.after_routine (routine_more First ns) (record { left = length p.instructions; more = rs }) p.routines routines.1 in
+    let mapped = times_more (format.map_format First) (format.map_format Fourth) (map_more First) p.maps maps.1 in
+    let left = subst (λ (l : ℕ). all_fit (format.routine Fourth ns) format.after_routine (record { left = l; more = rs }) p.routines) (sym same) own in (
       (m, ((omega arith, refl), (z, (rows_more _ n, (most_fits (length (sites_below p rs)) MOST_ROWS row (omega arith), (rows_more _ a, (rows_more _ t, (rows_more _ r, (rows_more _ e, count))))))))),
-      ((names.0, names_again [] p.names names.1), ((refl, each_fits (format.site Third ns rs) (sites_below p rs) new), ((maps.0, mapped), ((sets.0, sets_more FIRST_NUMBERS MOST_NUMBERS p.sets (omega arith) sets.1), ((routines.0, left), (entries, (refl, each_fits (format.instruction Third) (code_below p rs) (code_fits p D rs (omega arith) (fits_each (format.instruction First) p.instructions instructions.1))))))))),
+      ((names.0, names_again [] p.names names.1), ((refl, each_fits (format.site Fourth ns rs) (sites_below p rs) new), ((maps.0, mapped), ((sets.0, sets_more FIRST_NUMBERS MOST_NUMBERS p.sets (omega arith) sets.1), ((routines.0, left), (entries, (refl, each_fits (format.instruction Fourth) (code_below p rs) (code_fits p D rs (omega arith) (fits_each (format.instruction First) p.instructions instructions.1))))))))),
     )
 
-second_again : (p : Parts) → FitsAs Second p → FitsAs Third p
+second_again : (p : Parts) → FitsAs Second p → FitsAs Fourth p
 unfolding format.image format.header
 second_again p ((m, (o, (z, counts))), (names, (sites, (maps, (sets, (routines, (entries, instructions))))))) =
     let ns = length p.names in
     let rs = length p.routines in (
       (m, ((omega arith, refl), (z, counts))),
       (
-        (names.0, all_more (format.name Second) (format.name Third) with_name name_more [] p.names names.1),
+        (names.0, all_more (format.name Second) (format.name Fourth) with_name name_more [] p.names names.1),
         (
-          (sites.0, times_more (format.site Second ns rs) (format.site Third ns rs) (site_more ns rs) p.sites sites.1),
+          (sites.0, times_more (format.site Second ns rs) (format.site Fourth ns rs) (site_more ns rs) p.sites sites.1),
           (
-            (maps.0, times_more (format.map_format Second) (format.map_format Third) (map_more Second) p.maps maps.1),
+            (maps.0, times_more (format.map_format Second) (format.map_format Fourth) (map_more Second) p.maps maps.1),
             (
               sets,
               (
-                (routines.0, all_more (format.routine Second ns) (format.routine Third ns) format.after_routine (routine_more Second ns) (record { left = length p.instructions; more = rs }) p.routines routines.1),
-                (entries, (instructions.0, times_more (format.instruction Second) (format.instruction Third) (instruction_more Second) p.instructions instructions.1)),
+                (routines.0, all_more (format.routine Second ns) (format.routine Fourth ns) format.after_routine (routine_more Second ns) (record { left = length p.instructions; more = rs }) p.routines routines.1),
+                (entries, (instructions.0, times_more (format.instruction Second) (format.instruction Fourth) (instruction_more Second) p.instructions instructions.1)),
               ),
             ),
           ),
@@ -236,11 +239,19 @@ second_again p ((m, (o, (z, counts))), (names, (sites, (maps, (sets, (routines, 
       ),
     )
 
-fits_again : (v : ImageVersion) (p : Parts) → FitsAs v p → FitsAs Third (code_in v p)
+-- but for its instructions nothing of an image of version 3 is another in version 4
+third_again : (p : Parts) → FitsAs Third p → FitsAs Fourth p
+unfolding format.image format.header format.name format.site format.map_format format.rooms format.routine
+third_again p ((m, (o, (z, counts))), (names, (sites, (maps, (sets, (routines, (entries, instructions))))))) =
+    let more = times_more (format.instruction Third) (format.instruction Fourth) (instruction_more Third) p.instructions instructions.1 in
+    ((m, ((omega arith, refl), (z, counts))), (names, (sites, (maps, (sets, (routines, (entries, (instructions.0, more))))))))
+
+fits_again : (v : ImageVersion) (p : Parts) → FitsAs v p → FitsAs Fourth (code_in v p)
 fits_again First p fits = upgraded_with p (is_divided p fits) (fit_in First p fits) fits
 fits_again Second p fits = second_again p fits
-fits_again Third p fits = fits
+fits_again Third p fits = third_again p fits
+fits_again Fourth p fits = fits
 
 -- what is read can be written
 pub written_again : (s : Spelled) → format.image.Fits s → format.image.Fits (written (code_of s))
-written_again s fits = fits_again s.version s.parts fits
+written_again s fits = as_written (code_of s) (fits_again s.version s.parts fits)

@@ -9,7 +9,7 @@ use Rattle.td_ir.specs.Tables.{lengths_of}
 use Rattle.td_image.specs.declared.routines.Room.{Room}
 use Rattle.td_image.specs.declared.limits.TheConstants.{NO_FIELD}
 use Rattle.td_image.specs.declared.version.ImageVersion.{ImageVersion}
-use Rattle.td_image.specs.declared.version.ImageVersion.TheVariants.{First, Second, Third}
+use Rattle.td_image.specs.declared.version.ImageVersion.TheVariants.{First, Second, Third, Fourth}
 use Rattle.td_image.specs.declared.version.Spelled.{Spelled}
 use Rattle.td_image.specs.Versions.{most_numbers, most_instructions, has_owners}
 use Rattle.td_image.specs.Answer.{code_in, code_of}
@@ -42,6 +42,7 @@ unfolding format.site
 owner_fits First names routines s own fits = absurd (cc own)
 owner_fits Second names routines s own (ty, (field, routine)) = ltb-true _ _ routine.1
 owner_fits Third names routines s own (ty, (field, routine)) = ltb-true _ _ routine.1
+owner_fits Fourth names routines s own (ty, (field, routine)) = ltb-true _ _ routine.1
 
 param_fits : (names : ℕ) (p : Param) → (format.param names).Fits p → IsName names p.name
 unfolding format.param
@@ -77,6 +78,7 @@ unfolding format.rooms
 few_buffers First rooms fits = let none : length rooms ≡ 0 = ap length fits in omega (arith, none)
 few_buffers Second rooms fits = let none : length rooms ≡ 0 = ap length fits in omega (arith, none)
 few_buffers Third rooms (count, fits) = let few = leb-true _ _ count.1 in omega (arith, few)
+few_buffers Fourth rooms (count, fits) = let few = leb-true _ _ count.1 in omega (arith, few)
 
 length_fits : (v : ImageVersion) (names : ℕ) (room : Room) (r : Routine) → (format.routine v names room).Fits r → format.is_length room r.length ≡ true
 unfolding format.routine
@@ -198,6 +200,7 @@ pub fit_in : (v : ImageVersion) (p : Parts) → FitsAs v p → IsCode (code_in v
 fit_in First p fits = upgraded_is_code p (is_divided p fits) (old_code First p fits)
 fit_in Second p fits = with_owners Second p refl fits
 fit_in Third p fits = with_owners Third p refl fits
+fit_in Fourth p fits = with_owners Fourth p refl fits
 
 pub tables_fit : (s : Spelled) → format.image.Fits s → IsCode (code_of s)
 tables_fit s fits = fit_in s.version s.parts fits

@@ -1,12 +1,15 @@
 -- The bytes of a list are those of its rows.
-use Rattle.std.proofs.Common.{◌≡◌, ℕ, ◌-◌, List, [], ◌∷◌, ◌++◌, length, Some, None, refl, ap}
-use Rattle.std.specs.List.{flat_map}
+use Rattle.std.proofs.Common.{◌≡◌, ℕ, ◌-◌, Bool, true, false, List, [], ◌∷◌, ◌++◌, length, Some, None, refl, ap}
+use Rattle.std.specs.Prelude.{if◌then◌else◌}
+use Rattle.std.specs.List.{flat_map, list_any}
 use Rattle.std.specs.Int.{w8, w16, w32, w64, to_le_bytes}
 use Rattle.std.proofs.lemmas.List.Concat.{flat_map-cons}
-use Rattle.td_image.specs.Imports.{Parts, Fields, Site, Routine, NameId, Param, Cell, EntryPoint}
-use Rattle.td_image.specs.declared.limits.TheConstants.{MAGIC, VERSION, MOST_NUMBERS}
+use Rattle.td_image.specs.Imports.{Parts, Fields, Instr, Site, Routine, NameId, Param, Cell, EntryPoint}
+use Rattle.td_image.specs.declared.limits.TheConstants.{MAGIC}
 use Rattle.td_names.specs.Names.{with_name}
-use Rattle.td_image.specs.declared.version.ImageVersion.TheVariants.{Third}
+use Rattle.td_image.specs.declared.version.ImageVersion.{ImageVersion}
+use Rattle.td_image.specs.declared.version.ImageVersion.TheVariants.{First, Second, Third, Fourth}
+use Rattle.td_image.specs.Versions.{number_of, most_numbers, has_owners, has_buffers, is_newer, version_for}
 use Rattle.td_image.specs.Answer.{written}
 use Rattle.td_image.specs.declared.routines.Room.{Room}
 use Rattle.td_image.specs.Format.{Format, all_bytes, number, times}
@@ -24,25 +27,39 @@ flat f next g same s (x ∷ xs) = rw (flat_map-cons, same s x, flat f next g sam
 pub flat_times : {A : Type 0} (n : ℕ) (f : Format A) (xs : List A) → (times n f).bytes xs ≡ flat_map f.bytes xs
 flat_times n f xs = flat (λ (s : Unit {0}). f) (λ s x. s) f.bytes (λ s x. refl) tt xs
 
-pub site_same : (n r : ℕ) (x : Site) → (format.site Third n r).bytes x ≡ rows.site x
+site_same : (v : ImageVersion) → has_owners v ≡ true → (n r : ℕ) (x : Site) → (format.site v n r).bytes x ≡ rows.site x
 unfolding format.site
-site_same n r x = refl
+site_same First own n r x = absurd (cc own)
+site_same Second own n r x = refl
+site_same Third own n r x = refl
+site_same Fourth own n r x = refl
 
 pub name_flat : (x : List ℕ) → rows.name x ≡ to_le_bytes w32 (length x) ++ x
 unfolding format.name
 name_flat x = refl
 
-pub name_same : (s : List (List ℕ)) (x : List ℕ) → (format.name Third s).bytes x ≡ rows.name x
+name_same : (v : ImageVersion) (s : List (List ℕ)) (x : List ℕ) → (format.name v s).bytes x ≡ rows.name x
 unfolding format.name
-name_same s x = refl
+name_same v s x = refl
+
+map_same : (v : ImageVersion) (x : List ℕ) → (format.map_format v).bytes x ≡ rows.map x
+unfolding format.map_format
+map_same v x = refl
+
+instruction_same : (v : ImageVersion) (x : Instr) → (format.instruction v).bytes x ≡ rows.instruction x
+unfolding format.fields
+instruction_same v x = refl
 
 pub set_same : (s : ℕ) (x : List ℕ) → (format.set s).bytes x ≡ rows.set x
 unfolding format.set
 set_same s x = refl
 
-pub routine_same : (n : ℕ) (s : Room) (x : Routine) → (format.routine Third n s).bytes x ≡ rows.routine x
+routine_same : (v : ImageVersion) → has_buffers v ≡ true → (n : ℕ) (s : Room) (x : Routine) → (format.routine v n s).bytes x ≡ rows.routine x
 unfolding format.routine
-routine_same n s x = refl
+routine_same First own n s x = absurd (cc own)
+routine_same Second own n s x = absurd (cc own)
+routine_same Third own n s x = refl
+routine_same Fourth own n s x = refl
 
 pub rooms_flat : (xs : List ℕ) → rows.rooms xs ≡ to_le_bytes w32 (length xs) ++ flat_map rows.number xs
 unfolding format.rooms
@@ -105,19 +122,26 @@ pub fields_flat : (f : Fields) → (format.fields Third).bytes f ≡ to_le_bytes
 unfolding format.fields
 fields_flat f = refl
 
-pub header_flat : (p : Parts) → format.header.bytes (format.counts_of Third p) ≡ to_le_bytes w32 MAGIC ++ (to_le_bytes w16 VERSION ++ (to_le_bytes w16 0 ++ (to_le_bytes w32 (length p.names) ++ (to_le_bytes w32 (length p.sites)
+pub header_flat : (v : ImageVersion) (p : Parts) → format.header.bytes (format.counts_of v p) ≡ to_le_bytes w32 MAGIC ++ (to_le_bytes w16 (number_of v) ++ (to_le_bytes w16 0 ++ (to_le_bytes w32 (length p.names) ++ (to_le_bytes w32 (length p.sites)
     ++ (to_le_bytes w32 (length p.maps) ++ (to_le_bytes w32 (length p.sets) ++ (to_le_bytes w32 (length p.routines) ++ (to_le_bytes w32 (length p.entries) ++ to_le_bytes w32 (length p.instructions)))))))))
 unfolding format.header
-header_flat p = refl
+header_flat v p = refl
 
-pub image_flat : (p : Parts) → format.image.bytes (written p) ≡ format.header.bytes (format.counts_of Third p) ++ rows.tables p
+image_in : (v : ImageVersion) → has_owners v ≡ true → has_buffers v ≡ true → (p : Parts) → format.image.bytes (record { version = v; parts = p }) ≡ format.header.bytes (format.counts_of v p) ++ rows.tables p
 unfolding format.image
-image_flat p =
-    let n = flat (format.name Third) with_name rows.name name_same [] p.names in
-    let s = flat (λ (s : Unit {0}). format.site Third (length p.names) (length p.routines)) (λ s x. s) rows.site (λ s x. site_same (length p.names) (length p.routines) x) tt p.sites in
-    let m = flat_times (length p.maps) (format.map_format Third) p.maps in
-    let t = flat format.set (λ left x. left - length x) rows.set set_same MOST_NUMBERS p.sets in
-    let r = flat (format.routine Third (length p.names)) format.after_routine rows.routine (routine_same (length p.names)) (record { left = length p.instructions; more = length p.routines }) p.routines in
+image_in v owners buffers p =
+    let n = flat (format.name v) with_name rows.name (name_same v) [] p.names in
+    let s = flat (λ (s : Unit {0}). format.site v (length p.names) (length p.routines)) (λ s x. s) rows.site (λ s x. site_same v owners (length p.names) (length p.routines) x) tt p.sites in
+    let m = flat (λ (s : Unit {0}). format.map_format v) (λ s x. s) rows.map (λ s x. map_same v x) tt p.maps in
+    let t = flat format.set (λ left x. left - length x) rows.set set_same (most_numbers v) p.sets in
+    let r = flat (format.routine v (length p.names)) format.after_routine rows.routine (routine_same v buffers (length p.names)) (record { left = length p.instructions; more = length p.routines }) p.routines in
     let e = flat (λ (s : Unit {0}). format.entry (length p.names) p.routines) (λ s x. s) rows.entry (λ s x. entry_same (length p.names) p.routines x) tt p.entries in
-    let i = flat_times (length p.instructions) (format.instruction Third) p.instructions in
-    ap (λ (l : List ℕ). format.header.bytes (format.counts_of Third p) ++ l) (joined n (joined s (joined m (joined t (joined r (joined e i))))))
+    let i = flat (λ (s : Unit {0}). format.instruction v) (λ s x. s) rows.instruction (λ s x. instruction_same v x) tt p.instructions in
+    ap (λ (l : List ℕ). format.header.bytes (format.counts_of v p) ++ l) (joined n (joined s (joined m (joined t (joined r (joined e i))))))
+
+pub image_flat : (p : Parts) → format.image.bytes (written p) ≡ format.header.bytes (format.counts_of (version_for p.instructions) p) ++ rows.tables p
+image_flat p = by (list_any is_newer p.instructions)
+  where
+    by : (b : Bool) → format.image.bytes (record { version = if b then Fourth else Third; parts = p }) ≡ format.header.bytes (format.counts_of (if b then Fourth else Third) p) ++ rows.tables p
+    by true = image_in Fourth refl refl p
+    by false = image_in Third refl refl p

@@ -34,6 +34,7 @@ given_back (i.Get into cell) = refl
 given_back (i.Set source cell) = refl
 given_back i.Mark = refl
 given_back (i.Copy size buffer site) = refl
+given_back (i.Left into) = refl
 
 abbrev pub keep : Bool → ℕ → ℕ
 keep used n = cond used n 0
@@ -43,7 +44,7 @@ abbrev pub kept : ℕ → Fields → Fields
 kept n f =
     record { number = n; x = keep (has n field.X) f.x; a = keep (has n field.A) f.a; b = keep (has n field.B) f.b; c = keep (has n field.C) f.c; t = keep (has n field.T) f.t; site = keep (has n field.Site) f.site; k = keep (has n field.K) f.k }
 
-pub kept_by : (number : ℕ) (f : Fields) → number ≤ 26 → fields_of (instruction_by number f) ≡ kept number f
+pub kept_by : (number : ℕ) (f : Fields) → number ≤ 27 → fields_of (instruction_by number f) ≡ kept number f
 kept_by zero f le = refl
 kept_by (suc zero) f le = refl
 kept_by (suc (suc zero)) f le = refl
@@ -71,4 +72,5 @@ kept_by (suc (suc (suc (suc (suc (suc (suc (suc (suc (suc (suc (suc (suc (suc (s
 kept_by (suc (suc (suc (suc (suc (suc (suc (suc (suc (suc (suc (suc (suc (suc (suc (suc (suc (suc (suc (suc (suc (suc (suc (suc zero)))))))))))))))))))))))) f le = refl
 kept_by (suc (suc (suc (suc (suc (suc (suc (suc (suc (suc (suc (suc (suc (suc (suc (suc (suc (suc (suc (suc (suc (suc (suc (suc (suc zero))))))))))))))))))))))))) f le = refl
 kept_by (suc (suc (suc (suc (suc (suc (suc (suc (suc (suc (suc (suc (suc (suc (suc (suc (suc (suc (suc (suc (suc (suc (suc (suc (suc (suc zero)))))))))))))))))))))))))) f le = refl
-kept_by (suc (suc (suc (suc (suc (suc (suc (suc (suc (suc (suc (suc (suc (suc (suc (suc (suc (suc (suc (suc (suc (suc (suc (suc (suc (suc (suc n))))))))))))))))))))))))))) f le = absurd (omega (arith, le))
+kept_by (suc (suc (suc (suc (suc (suc (suc (suc (suc (suc (suc (suc (suc (suc (suc (suc (suc (suc (suc (suc (suc (suc (suc (suc (suc (suc (suc zero))))))))))))))))))))))))))) f le = refl
+kept_by (suc (suc (suc (suc (suc (suc (suc (suc (suc (suc (suc (suc (suc (suc (suc (suc (suc (suc (suc (suc (suc (suc (suc (suc (suc (suc (suc (suc n)))))))))))))))))))))))))))) f le = absurd (omega (arith, le))

@@ -7,10 +7,10 @@ use Rattle.td_image.specs.Imports.{Width, One, Two, Four, Eight, CellKind, Numbe
 use Rattle.td_names.specs.Names.{is_seen, with_name}
 use Rattle.td_image.specs.declared.fault.Cause.{Cause}
 use Rattle.td_image.specs.declared.fault.Cause.TheVariants.{Magic, Version, Field}
-use Rattle.td_image.specs.declared.limits.TheConstants.{MAGIC, VERSION, SECOND_VERSION, FIRST_VERSION, MOST_CELLS, MOST_BUFFERS, MOST_ROOM, MOST_PARAMETERS, MOST_REGISTERS, NO_FIELD}
+use Rattle.td_image.specs.declared.limits.TheConstants.{MAGIC, VERSION, THIRD_VERSION, SECOND_VERSION, FIRST_VERSION, MOST_CELLS, MOST_BUFFERS, MOST_ROOM, MOST_PARAMETERS, MOST_REGISTERS, NO_FIELD}
 use Rattle.td_image.specs.declared.counts.Counts.{Counts}
 use Rattle.td_image.specs.declared.version.ImageVersion.{ImageVersion}
-use Rattle.td_image.specs.declared.version.ImageVersion.TheVariants.{First, Second, Third}
+use Rattle.td_image.specs.declared.version.ImageVersion.TheVariants.{First, Second, Third, Fourth}
 use Rattle.td_image.specs.Versions.{number_of, is_version, version_of, most_rows, most_numbers, most_instructions, most_mapped, last_kind, has_owners, has_buffers}
 use Rattle.td_image.specs.declared.routines.Room.{Room}
 use Rattle.td_image.specs.Format.{Format, number, text, allowed, ◌then◌, times}
@@ -180,10 +180,11 @@ keeps true n e = refl
 keeps false n e = sym (eqb-true _ _ e)
 
 -- no version has a kind of a greater number
-no_greater : (v : ImageVersion) (n : ℕ) → n ≤ last_kind v → n ≤ 26
+no_greater : (v : ImageVersion) (n : ℕ) → n ≤ last_kind v → n ≤ 27
 no_greater First n le = omega (arith, le)
 no_greater Second n le = omega (arith, le)
 no_greater Third n le = omega (arith, le)
+no_greater Fourth n le = omega (arith, le)
 
 fields_back : (v : ImageVersion) (f : Fields) → (fields v).Fits f → fields_of (instruction_of f) ≡ f
 unfolding fields
@@ -195,18 +196,20 @@ fields_back v f (number, (x, (a, (b, (c, (t, (s, k))))))) =
 pub instruction_exact : (v : ImageVersion) → IsExact (instruction v)
 instruction_exact v = made_exact instruction_of fields_of (fields v) (fields_exact v) (fields_back v) given_back
 
-version_by : (n : ℕ) (a b : Bool) → (n == FIRST_VERSION) ≡ a → (n == SECOND_VERSION) ≡ b → (a || b || (n == VERSION)) ≡ true → number_of (if a then First else (if b then Second else Third)) ≡ n
-version_by n true b e f h = sym (eqb-true _ _ e)
-version_by n false true e f h = sym (eqb-true _ _ f)
-version_by n false false e f h = sym (eqb-true _ _ h)
+version_by : (n : ℕ) (a b d : Bool) → (n == FIRST_VERSION) ≡ a → (n == SECOND_VERSION) ≡ b → (n == THIRD_VERSION) ≡ d → (a || b || d || (n == VERSION)) ≡ true → number_of (if a then First else (if b then Second else (if d then Third else Fourth))) ≡ n
+version_by n true b d e f g h = sym (eqb-true _ _ e)
+version_by n false true d e f g h = sym (eqb-true _ _ f)
+version_by n false false true e f g h = sym (eqb-true _ _ g)
+version_by n false false false e f g h = sym (eqb-true _ _ h)
 
 version_back : (n : ℕ) → is_version n ≡ true → number_of (version_of n) ≡ n
-version_back n h = version_by n (n == FIRST_VERSION) (n == SECOND_VERSION) refl refl h
+version_back n h = version_by n (n == FIRST_VERSION) (n == SECOND_VERSION) (n == THIRD_VERSION) refl refl refl h
 
 version_there : (v : ImageVersion) → version_of (number_of v) ≡ v
 version_there First = refl
 version_there Second = refl
 version_there Third = refl
+version_there Fourth = refl
 
 pub version_exact : IsExact version
 version_exact = made_exact version_of number_of (allowed Version is_version (number w16)) (allowed_exact Version is_version (number w16) (number_exact w16 wide16)) (λ n fits. version_back n fits.1) version_there

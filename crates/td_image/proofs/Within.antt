@@ -1,4 +1,4 @@
--- Tables that fit together and are within the limits have an image.
+-- Tables that fit together and are within the limits have an image of version 4.
 use Rattle.std.proofs.Common.{◌≡◌, ℕ, suc, ◌-◌, ◌^◌, ◌≤◌, ◌<◌, Bool, true, false, ◌&&◌, ◌||◌, not, List, [], ◌∷◌, length, Option, Some, None, refl, sym, ap, ◌∙◌, arith}
 use Rattle.std.specs.Prelude.{nat_le, nat_lt, ◌==◌, slice_get}
 use Rattle.std.specs.Int.{w32}
@@ -20,11 +20,10 @@ use Rattle.td_ir.specs.declared.opcodes.OperandField.TheVariants as field
 use Rattle.td_ir.specs.Opcodes.{has}
 use Rattle.td_ir.specs.Fields.{fields_of}
 use Rattle.td_image.specs.Names.{is_image_name}
-use Rattle.td_image.specs.declared.version.ImageVersion.TheVariants.{Third}
-use Rattle.td_image.specs.Answer.{written}
+use Rattle.td_image.specs.declared.version.ImageVersion.TheVariants.{Third, Fourth}
 use Rattle.td_image.specs.Image as format
 use Rattle.td_image.specs.Within.{IsSpelled, IsSmallMap, total, IsRoom, IsSmallRoutine, HasSmallOperands, IsWithinFormat}
-use Rattle.td_image.proofs.Fitting.{sum_of, begin_whole}
+use Rattle.td_image.proofs.Fitting.{FitsAs, sum_of, begin_whole}
 use Rattle.td_num.proofs.Truths.{or_right, or_left, false_by}
 use Rattle.td_num.proofs.Lists.{each_by as each_at, each_map}
 
@@ -53,7 +52,7 @@ some_bytes : (name : List ℕ) → is_image_name Third name ≡ true → 1 ≤ l
 some_bytes [] e = absurd cc
 some_bytes (b ∷ bs) e = omega arith
 
-name_fits : (seen : List (List ℕ)) (name : List ℕ) → IsSpelled name → is_seen seen name ≡ false → (format.name Third seen).Fits name
+name_fits : (seen : List (List ℕ)) (name : List ℕ) → IsSpelled name → is_seen seen name ≡ false → (format.name Fourth seen).Fits name
 unfolding format.name
 name_fits seen name spelled unseen =
     let some : nat_le 1 (length name) ≡ true = le-leb 1 (length name) (some_bytes name spelled.word) in
@@ -66,7 +65,7 @@ unseen_after seen x y ex ey never =
     let apart : bytes_eq y x ≡ false = false_by (bytes_eq y x) (λ e. never ((bytes_eq-Decides y x).0 e)) in
     rw ex (list_any-append (bytes_eq y) seen (x ∷ []) ∙ rw (ey, apart) refl)
 
-names_fit : (seen xs : List (List ℕ)) → Each IsSpelled xs → ((k : ℕ) (name : List ℕ) → slice_get xs k ≡ Some name → is_seen seen name ≡ false) → AreApart xs → all_fit (format.name Third) with_name seen xs
+names_fit : (seen xs : List (List ℕ)) → Each IsSpelled xs → ((k : ℕ) (name : List ℕ) → slice_get xs k ≡ Some name → is_seen seen name ≡ false) → AreApart xs → all_fit (format.name Fourth) with_name seen xs
 unfolding all_fit
 names_fit seen [] spelled unseen apart = tt
 names_fit seen (x ∷ xs) spelled unseen apart =
@@ -82,7 +81,7 @@ names_fit seen (x ∷ xs) spelled unseen apart =
 place_fits : (names n : ℕ) → names ≤ MOST_ROWS → n < names → (format.place names).Fits n
 place_fits names n few lt = (omega (arith, few, lt), lt-ltb n names lt)
 
-pub site_fits : (names routines : ℕ) (s : Site) → names ≤ MOST_ROWS → routines ≤ MOST_ROWS → IsSite names routines s → (format.site Third names routines).Fits s
+pub site_fits : (names routines : ℕ) (s : Site) → names ≤ MOST_ROWS → routines ≤ MOST_ROWS → IsSite names routines s → (format.site Fourth names routines).Fits s
 unfolding format.site
 site_fits names routines s few more named =
     (place_fits names s.ty.number few named.ty_named, (place_fits names s.field.number few named.field_named, place_fits routines s.routine more named.of_routine))
@@ -90,7 +89,7 @@ site_fits names routines s few more named =
 pub most_fits : (n most : ℕ) → n ≤ most → most < 2 ^ 32 → (format.up_to most).Fits n
 most_fits n most le few = (omega (arith, le, few), le-leb n most le)
 
-map_fits : (mapped : List ℕ) → IsSmallMap mapped → (format.map_format Third).Fits mapped
+map_fits : (mapped : List ℕ) → IsSmallMap mapped → (format.map_format Fourth).Fits mapped
 unfolding format.map_format
 map_fits mapped small = (most_fits (length mapped) MOST_MAPPED small.few (omega arith), (refl, each_fits (number w32) mapped small.numbers))
 
@@ -135,11 +134,11 @@ is_length room r rs more sum some =
 room_fits : (n : ℕ) → IsRoom n → format.buffer_room.Fits n
 room_fits n h = (omega (arith, h.1), and_both (nat_le 1 n) (nat_le n MOST_ROOM) (le-leb 1 n h.0) (le-leb n MOST_ROOM h.1))
 
-buffers_fit : (r : Routine) → IsSmallRoutine r → (format.buffers Third).Fits r.buffers
+buffers_fit : (r : Routine) → IsSmallRoutine r → (format.buffers Fourth).Fits r.buffers
 unfolding format.rooms
 buffers_fit r s = (most_fits (length r.buffers) MOST_BUFFERS s.buffers (omega arith), (refl, each_fits format.buffer_room r.buffers (each_map IsRoom format.buffer_room.Fits r.buffers room_fits s.rooms)))
 
-routines_fit : (names : ℕ) (room : Room) (rs : List Routine) → names ≤ MOST_ROWS → room.more ≡ length rs → sum_of rs ≡ room.left → room.left < 2 ^ 32 → Each (IsRoutine names) rs → Each IsSmallRoutine rs → all_fit (format.routine Third names) format.after_routine room rs
+routines_fit : (names : ℕ) (room : Room) (rs : List Routine) → names ≤ MOST_ROWS → room.more ≡ length rs → sum_of rs ≡ room.left → room.left < 2 ^ 32 → Each (IsRoutine names) rs → Each IsSmallRoutine rs → all_fit (format.routine Fourth names) format.after_routine room rs
 unfolding all_fit format.routine
 routines_fit names room [] few more sum left named small = tt
 routines_fit names room (r ∷ rs) few more sum left named small =
@@ -247,8 +246,9 @@ unused (i.Get into cell) = (refl, refl, refl, refl, refl, refl, refl)
 unused (i.Set source cell) = (refl, refl, refl, refl, refl, refl, refl)
 unused i.Mark = (refl, refl, refl, refl, refl, refl, refl)
 unused (i.Copy size buffer site) = (refl, refl, refl, refl, refl, refl, refl)
+unused (i.Left into) = (refl, refl, refl, refl, refl, refl, refl)
 
-known : (j : Instr) → (format.kind Third).Fits (fields_of j).number
+known : (j : Instr) → (format.kind Fourth).Fits (fields_of j).number
 known (i.Const into value) = (omega arith, refl)
 known (i.Member into source set) = (omega arith, refl)
 known (i.Op into operator left right) = (omega arith, refl)
@@ -276,8 +276,9 @@ known (i.Get into cell) = (omega arith, refl)
 known (i.Set source cell) = (omega arith, refl)
 known i.Mark = (omega arith, refl)
 known (i.Copy size buffer site) = (omega arith, refl)
+known (i.Left into) = (omega arith, refl)
 
-pub instruction_fits : (j : Instr) → HasSmallOperands (fields_of j) → (format.instruction Third).Fits j
+pub instruction_fits : (j : Instr) → HasSmallOperands (fields_of j) → (format.instruction Fourth).Fits j
 unfolding format.fields
 instruction_fits j small =
     let u = unused j in
@@ -292,7 +293,7 @@ count_allowed (r ∷ rs) n sum = or_left (nat_lt 0 (length (r ∷ rs))) (n == 0)
 rows_fit : (n : ℕ) → n ≤ MOST_ROWS → (format.up_to MOST_ROWS).Fits n
 rows_fit n le = most_fits n MOST_ROWS le (omega arith)
 
-header_fits : (p : Parts) → IsCode p → IsWithinFormat p → format.header.Fits (format.counts_of Third p)
+header_fits : (p : Parts) → IsCode p → IsWithinFormat p → format.header.Fits (format.counts_of Fourth p)
 unfolding format.header
 header_fits p code within =
     let sum : sum_of p.routines ≡ length p.instructions = sym (begin_whole p.routines) ∙ code.whole in
@@ -326,31 +327,31 @@ header_fits p code within =
       ),
     )
 
-pub within_fits : (p : Parts) → IsCode p → IsWithinFormat p → format.image.Fits (written p)
+pub within_fits : (p : Parts) → IsCode p → IsWithinFormat p → FitsAs Fourth p
 unfolding format.image
 within_fits p code within =
     let ns = length p.names in
     let sum : sum_of p.routines ≡ length p.instructions = sym (begin_whole p.routines) ∙ code.whole in
     let few : length p.instructions < 2 ^ 32 = omega (arith, within.instructions) in
     let rs = length p.routines in
-    let sites = each_at (format.site Third ns rs).Fits p.sites _ (λ k lt. site_fits ns rs (site_of p k) within.names within.routines (code.sites k lt)) in
-    let maps = each_map IsSmallMap (format.map_format Third).Fits p.maps map_fits within.small_maps in
+    let sites = each_at (format.site Fourth ns rs).Fits p.sites _ (λ k lt. site_fits ns rs (site_of p k) within.names within.routines (code.sites k lt)) in
+    let maps = each_map IsSmallMap (format.map_format Fourth).Fits p.maps map_fits within.small_maps in
     let rising = each_at Rises p.sets _ (λ k lt. code.sets k lt) in
     let named = each_at (IsRoutine ns) p.routines _ (λ k lt. code.routines k lt) in
     let entries = each_at (format.entry ns p.routines).Fits p.entries _ (λ k lt. entry_fits p (entry_of p k) within.names within.routines (code.entries k lt)) in
-    let instructions = each_map (λ j. HasSmallOperands (fields_of j)) (format.instruction Third).Fits p.instructions instruction_fits within.small_operands in (
+    let instructions = each_map (λ j. HasSmallOperands (fields_of j)) (format.instruction Fourth).Fits p.instructions instruction_fits within.small_operands in (
       header_fits p code within,
       (
         (refl, names_fit [] p.names within.spelled (λ k name e. refl) within.apart),
         (
-          (refl, each_fits (format.site Third ns rs) p.sites sites),
+          (refl, each_fits (format.site Fourth ns rs) p.sites sites),
           (
-            (refl, each_fits (format.map_format Third) p.maps maps),
+            (refl, each_fits (format.map_format Fourth) p.maps maps),
             (
               (refl, sets_fit MOST_NUMBERS p.sets (omega arith) within.few_numbers within.numbers rising),
               (
                 (refl, routines_fit ns (record { left = length p.instructions; more = length p.routines }) p.routines within.names refl sum few named within.small_routines),
-                ((refl, each_fits (format.entry ns p.routines) p.entries entries), (refl, each_fits (format.instruction Third) p.instructions instructions)),
+                ((refl, each_fits (format.entry ns p.routines) p.entries entries), (refl, each_fits (format.instruction Fourth) p.instructions instructions)),
               ),
             ),
           ),

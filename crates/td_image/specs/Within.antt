@@ -8,7 +8,7 @@ use Rattle.td_ir.specs.Fields.{fields_of}
 use Rattle.td_image.specs.declared.version.ImageVersion.TheVariants.{Third}
 use Rattle.td_image.specs.Names.{is_image_name}
 
--- a name of the version that is written
+-- a name of versions 3 and 4
 pub record IsSpelled (name : List ℕ) : Type 0 where
   pub word : is_image_name Third name ≡ true
   pub bytes : AreBytes name

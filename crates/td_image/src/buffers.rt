@@ -63,6 +63,7 @@ pub(crate) fn buffers_of(
         ImageVersion::First => Ok((Items::new(alloc), bytes)),
         ImageVersion::Second => Ok((Items::new(alloc), bytes)),
         ImageVersion::Third => rooms_of(alloc, bytes),
+        ImageVersion::Fourth => rooms_of(alloc, bytes),
     }
 }
 

@@ -2,7 +2,8 @@
 
 ghost use Rattle.td_image.specs.Laws.{OfOneCode, OneSpelling, OneFault, NoFault, NoLonger, CutIsShort, TablesFit, WithinHasImage, ReadIsWritten, NoneForCounts};
 
-/// Bytes are the image of one code at most, and a code has one image at most in the version that is written.
+/// Bytes are the image of one code at most, and a code has one image at most in the version in which it is
+/// written.
 pub fn one_spelling()
     ensures of_one_code { OfOneCode }
     ensures one { OneSpelling }
@@ -36,7 +37,7 @@ pub fn memory_is_for_rows()
     ensures { NoneForCounts }
 {}
 
-/// What is spelled in any version has an image in the version that is written.
+/// Code that is spelled in any version has an image in the version in which it is written.
 pub fn what_is_read_can_be_written()
     ensures { ReadIsWritten }
 {}

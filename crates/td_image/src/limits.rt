@@ -1,12 +1,14 @@
-//! The numbers of the format of images: those of version 3 and, where they differ, of the versions before it (own rule).
+//! The numbers of the format of images: those of version 4 and, where they differ, of the versions before it (own rule).
 //! docs/language/images.md has the whole format. They are the versions' own: an image of a version keeps them whatever the
 //! limits of a module become, which stand in td_core.
 
 /// The first four bytes as a number, the byte of least weight first: `54 44 33 49`, in ASCII `TD3I`.
 pub const MAGIC: u32 = 1_228_096_596;
-/// The version that is written.
-pub const VERSION: u16 = 3;
-/// The version before it, which is read too.
+/// The newest version, in which code is written that has an instruction of its kinds.
+pub const VERSION: u16 = 4;
+/// The version before it, in which other code is written.
+pub const THIRD_VERSION: u16 = 3;
+/// The second version, which is read too.
 pub const SECOND_VERSION: u16 = 2;
 /// The first version, which is read too.
 pub const FIRST_VERSION: u16 = 1;
@@ -39,6 +41,8 @@ pub const MOST_REGISTERS: u16 = 65_535;
 /// What stands in place of a field's name where a cell isn't one of a record.
 pub const NO_FIELD: u32 = 4_294_967_295;
 /// The greatest number of a kind of instruction.
-pub const LAST_KIND: u8 = 26;
+pub const LAST_KIND: u8 = 27;
+/// The same in version 3.
+pub const THIRD_KIND: u8 = 26;
 /// The same before version 3.
 pub const SECOND_KIND: u8 = 25;

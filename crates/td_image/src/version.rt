@@ -5,8 +5,11 @@ ghost use Rattle.td_image.specs.Versions as versions;
 
 use crate::limits::{
     FIRST_INSTRUCTIONS, FIRST_NUMBERS, FIRST_ROWS, FIRST_VERSION, LAST_KIND, MOST_INSTRUCTIONS,
-    MOST_MAPPED, MOST_NUMBERS, MOST_ROWS, SECOND_KIND, SECOND_MAPPED, SECOND_VERSION,
+    MOST_MAPPED, MOST_NUMBERS, MOST_ROWS, SECOND_KIND, SECOND_MAPPED, SECOND_VERSION, THIRD_KIND,
+    THIRD_VERSION, VERSION,
 };
+use td_ir::fields::fields_of;
+use td_ir::instructions::Instr;
 use td_ir::tables::Parts;
 
 /// A version of the format. All that distinguishes one from another is a function of it.
@@ -18,6 +21,8 @@ pub enum ImageVersion {
     Second,
     /// A routine may have copy buffers, and there is one more kind of instruction.
     Third,
+    /// There is one more kind of instruction.
+    Fourth,
 }
 
 /// What an image spells.
@@ -35,9 +40,41 @@ pub(crate) fn version_of(number: u16) -> ImageVersion
         ImageVersion::First
     } else if number == SECOND_VERSION {
         ImageVersion::Second
-    } else {
+    } else if number == THIRD_VERSION {
         ImageVersion::Third
+    } else {
+        ImageVersion::Fourth
     }
+}
+
+/// A version's number.
+pub(crate) fn number_of(version: ImageVersion) -> u16
+    ensures { result ≡ versions.number_of version }
+{
+    match version {
+        ImageVersion::First => FIRST_VERSION,
+        ImageVersion::Second => SECOND_VERSION,
+        ImageVersion::Third => THIRD_VERSION,
+        ImageVersion::Fourth => VERSION,
+    }
+}
+
+fn is_newer(instruction: Instr) -> bool
+    ensures { result ≡ versions.is_newer instruction }
+{
+    fields_of(instruction).number > THIRD_KIND
+}
+
+/// The version in which code of these instructions is written.
+pub(crate) fn version_for(instructions: &[Instr]) -> ImageVersion
+    ensures { result ≡ versions.version_for instructions.now }
+{
+    for instruction in instructions {
+        if is_newer(*instruction) {
+            return ImageVersion::Fourth;
+        }
+    }
+    ImageVersion::Third
 }
 
 /// Rows at most of each table but that of instructions.
@@ -48,6 +85,7 @@ pub(crate) fn most_rows(version: ImageVersion) -> usize
         ImageVersion::First => FIRST_ROWS,
         ImageVersion::Second => MOST_ROWS,
         ImageVersion::Third => MOST_ROWS,
+        ImageVersion::Fourth => MOST_ROWS,
     }
 }
 
@@ -59,6 +97,7 @@ pub(crate) fn most_numbers(version: ImageVersion) -> usize
         ImageVersion::First => FIRST_NUMBERS,
         ImageVersion::Second => MOST_NUMBERS,
         ImageVersion::Third => MOST_NUMBERS,
+        ImageVersion::Fourth => MOST_NUMBERS,
     }
 }
 
@@ -70,6 +109,7 @@ pub(crate) fn most_mapped(version: ImageVersion) -> usize
         ImageVersion::First => SECOND_MAPPED,
         ImageVersion::Second => SECOND_MAPPED,
         ImageVersion::Third => MOST_MAPPED,
+        ImageVersion::Fourth => MOST_MAPPED,
     }
 }
 
@@ -80,7 +120,8 @@ pub(crate) fn last_kind(version: ImageVersion) -> u8
     match version {
         ImageVersion::First => SECOND_KIND,
         ImageVersion::Second => SECOND_KIND,
-        ImageVersion::Third => LAST_KIND,
+        ImageVersion::Third => THIRD_KIND,
+        ImageVersion::Fourth => LAST_KIND,
     }
 }
 
@@ -92,6 +133,7 @@ pub(crate) fn has_dots(version: ImageVersion) -> bool
         ImageVersion::First => false,
         ImageVersion::Second => true,
         ImageVersion::Third => true,
+        ImageVersion::Fourth => true,
     }
 }
 
@@ -103,5 +145,6 @@ pub(crate) fn most_instructions(version: ImageVersion) -> u32
         ImageVersion::First => FIRST_INSTRUCTIONS,
         ImageVersion::Second => MOST_INSTRUCTIONS,
         ImageVersion::Third => MOST_INSTRUCTIONS,
+        ImageVersion::Fourth => MOST_INSTRUCTIONS,
     }
 }

@@ -4,15 +4,15 @@ use Rattle.std.proofs.lemmas.Bool.{ltb-true}
 use Rattle.td_num.specs.Lists.{Each}
 use Rattle.td_core.specs.declared.expressions.Scalar.TheVariants as scalar
 use Rattle.td_core.specs.Term.{Term, Deed}
-use Rattle.td_core.specs.Formed.{Bound, whole, part_bound, parts_scope, param_bounds, own_bounds, params_at, IsScoped, IsOptionScoped, IsActionFormed, ArePartsFormed, IsElementFormed, IsExtentFormed, AreFieldsFormed, AreCasesFormed, IsDefaultFormed, IsBodyFormed, IsDefinitionFormed}
+use Rattle.td_core.specs.Formed.{Bound, whole, part_bound, parts_scope, param_bounds, own_bounds, params_at, IsScoped, IsOptionScoped, IsActionFormed, ArePartsFormed, IsElementFormed, IsSourceFormed, IsExtentFormed, AreFieldsFormed, AreCasesFormed, IsDefaultFormed, IsBodyFormed, IsDefinitionFormed}
 use Rattle.td_core.specs.WellFormed.{OfSome, EachField}
-use Rattle.td_image_fits.specs.Imports.{Element, Number as NumberElement, Listed as ListedElement, Named as NamedElement, Unit as UnitElement, Rest, Zeros, Extent, Once, Filling, OnceFilling, UpToZero, Bits, CopyOut, Part, Field, Case, Body as BodyDef, Struct as StructDef, Casetype as CasetypeDef, TypeDef}
+use Rattle.td_image_fits.specs.Imports.{Element, Number as NumberElement, Listed as ListedElement, Named as NamedElement, Unit as UnitElement, Rest, Zeros, Extent, Once, Filling, OnceFilling, UpToZero, Given, Source, Expression, FromCell, Left, Bits, CopyOut, Part, Field, Case, Body as BodyDef, Struct as StructDef, Casetype as CasetypeDef, TypeDef}
 use Rattle.td_expr.specs.Same.{constant_of}
 use Rattle.td_meaning.specs.Naming.{is_needed}
 use Rattle.td_meaning.specs.Meaning.{divides, equals}
 use Rattle.td_lower_blocks.specs.Block.{Done}
 use Rattle.td_lower_blocks.specs.Constructs.{Steps, ByConstant, Never, Inner, Uneven, CopyAll, Body, inner, steps, cases, body}
-use Rattle.td_lower_blocks.specs.Lowered.{expr_of, action_of, number_slot, bits_step, test_step, action_step, when, is_read, terms_of, parts_in, parts_steps, once_step, evenly, exactly, each_inner, one_inner, constant_step, filling_step, once_filling_step, up_to_zero_step, shape_step, copied_step, content_step, fields_steps, last_case, cases_of, body_of, guarded_body, definition_body, arguments}
+use Rattle.td_lower_blocks.specs.Lowered.{expr_of, action_of, number_slot, bits_step, test_step, action_step, when, is_read, terms_of, parts_in, parts_steps, once_step, evenly, exactly, each_inner, one_inner, constant_step, filling_step, once_filling_step, up_to_zero_step, source_step, shape_step, copied_step, content_step, fields_steps, last_case, cases_of, body_of, guarded_body, definition_body, arguments}
 use Rattle.td_image_fits.specs.Small.{IsWord, HasSmallStep, IsFieldSmall, HasSmallCases}
 use Rattle.td_image_fits.proofs.Blocks.{AreRoomy}
 use Rattle.td_image_fits.proofs.Values.{IsRoomyExpr, expr_roomy, value_roomy, values_roomy, args_roomy, deed_roomy, acts_roomy}
@@ -129,12 +129,18 @@ module _ (ds : List TypeDef) (n t : ℕ) (few : n < 2 ^ 32) (low : suc t < 2 ^ 1
   zero_roomy scope site Rest size k e h = tt
   zero_roomy scope site Zeros size k e h = tt
 
-  shape_roomy : (cells scope : List Bound) (slot site : ℕ) (needed : Bool) (element : Element) (extent : Extent) (k : Steps) → IsElementFormed ds n cells scope element → IsExtentFormed scope extent → HasSmallStep extent → AreRoomy (steps k)
+  source_roomy : (cells scope : List Bound) (b : Bound) (source : Source) (slot : ℕ) (k : Steps) → IsSourceFormed cells scope b source → AreRoomy (steps k) → AreRoomy (steps (source_step t source slot k))
+  source_roomy cells scope b (Expression span e) slot k s h = value_roomy (suc t) (expr_of e) _ (expr_roomy scope e s) (tt, h)
+  source_roomy cells scope b (FromCell cell) slot k s h = (tt, h)
+  source_roomy cells scope b Left slot k s h = (tt, h)
+
+  shape_roomy : (cells scope : List Bound) (slot site : ℕ) (needed : Bool) (element : Element) (extent : Extent) (k : Steps) → IsElementFormed ds n cells scope element → IsExtentFormed cells scope element extent → HasSmallStep extent → AreRoomy (steps k)
       → AreRoomy (steps (shape_step t element extent needed slot site k))
   shape_roomy cells scope slot site needed element Once k f e s h = once_roomy cells scope slot site needed element k f h
   shape_roomy cells scope slot site needed element (Filling size step) k f e s h = filling_roomy cells scope site (constant_of size) step element size k f e s h
   shape_roomy cells scope slot site needed element (OnceFilling size step) k f e s h = once_filling_roomy cells scope site (constant_of size) step element size k f e s h
   shape_roomy cells scope slot site needed element (UpToZero size) k f e s h = zero_roomy scope site element size k e h
+  shape_roomy cells scope slot site needed element (Given source) k f e s h = source_roomy cells scope (part_bound element (Given source) None) source slot k e h
 
   copied_roomy : (scope : List Bound) (site : ℕ) (o : Option ℕ) (w : CopyOut) (size : Term) (k : Steps) → IsScoped scope size → AreRoomy (steps k) → AreRoomy (steps (copied_step t o w size site k))
   copied_roomy scope site None w size k e h = value_roomy (suc t) (expr_of size) _ (expr_roomy scope size e) (tt, h)
@@ -144,13 +150,14 @@ module _ (ds : List TypeDef) (n t : ℕ) (few : n < 2 ^ 32) (low : suc t < 2 ^ 1
       by true l = (tt, ((omega (arith, ltb-true m (2 ^ 32) l), (tt, tt)), h))
       by false l = tt
 
-  content_roomy : (cells scope : List Bound) (slot site : ℕ) (needed : Bool) (element : Element) (extent : Extent) (copy : Option CopyOut) (k : Steps) → IsElementFormed ds n cells scope element → IsExtentFormed scope extent → HasSmallStep extent
+  content_roomy : (cells scope : List Bound) (slot site : ℕ) (needed : Bool) (element : Element) (extent : Extent) (copy : Option CopyOut) (k : Steps) → IsElementFormed ds n cells scope element → IsExtentFormed cells scope element extent → HasSmallStep extent
       → AreRoomy (steps k) → AreRoomy (steps (content_step t element extent copy needed slot site k))
   content_roomy cells scope slot site needed element extent None k f e s h = shape_roomy cells scope slot site needed element extent k f e s h
   content_roomy cells scope slot site needed element Once (Some w) k f e s h = shape_roomy cells scope slot site needed element Once k f e s h
   content_roomy cells scope slot site needed element (Filling size step) (Some w) k f e s h = copied_roomy scope site (constant_of size) w size k e h
   content_roomy cells scope slot site needed element (OnceFilling size step) (Some w) k f e s h = shape_roomy cells scope slot site needed element (OnceFilling size step) k f e s h
   content_roomy cells scope slot site needed element (UpToZero size) (Some w) k f e s h = shape_roomy cells scope slot site needed element (UpToZero size) k f e s h
+  content_roomy cells scope slot site needed element (Given source) (Some w) k f e s h = shape_roomy cells scope slot site needed element (Given source) k f e s h
 
   fields_roomy : (cells scope : List Bound) (site L : ℕ) (fs : List Field) → AreFieldsFormed ds n cells scope fs → Each IsFieldSmall fs → AreRoomy (steps (fields_steps t site L fs))
   fields_roomy cells scope site L [] f s = tt

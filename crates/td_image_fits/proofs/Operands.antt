@@ -58,6 +58,7 @@ module _ (c : Parts) (n params : ℕ) (room : HasRoom c n) where
   operands_small (i.Get into cell) y h t o = record { x = omega arith; a = omega (arith, room.registers, h); b = omega arith; c = omega (arith, room.cells, t); t = omega arith; site = omega arith; k = omega arith }
   operands_small (i.Set source cell) y h t o = record { x = omega arith; a = omega arith; b = omega (arith, room.registers, h); c = omega (arith, room.cells, t); t = omega arith; site = omega arith; k = omega arith }
   operands_small i.Mark y h t o = record { x = omega arith; a = omega arith; b = omega arith; c = omega arith; t = omega arith; site = omega arith; k = omega arith }
+  operands_small (i.Left into) y h t o = record { x = omega arith; a = omega (arith, room.registers, h); b = omega arith; c = omega arith; t = omega arith; site = omega arith; k = omega arith }
   operands_small (i.Copy size buffer site) y h t o = record { x = omega arith; a = omega arith; b = omega (arith, room.registers, h); c = omega (arith, room.buffers, t.1); t = omega arith; site = omega (arith, room.sites, t.0); k = omega arith }
 
 -- the routine of an instruction

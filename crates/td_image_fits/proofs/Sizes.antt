@@ -4,15 +4,15 @@ use Rattle.td_num.specs.Numbers.{bytes_in}
 use Rattle.td_num.specs.Lists.{Each}
 use Rattle.td_core.specs.Term.{Term, measure, Deed}
 use Rattle.td_core.specs.WellFormed.{OfSome, EachField, HasParts}
-use Rattle.td_core.specs.Weights.{option_nodes, action_nodes, element_nodes, extent_nodes, part_nodes, total, fields_nodes, default_nodes, cases_nodes as module_cases_nodes, body_nodes, head_nodes}
-use Rattle.td_image_fits.specs.Imports.{Element, Number as NumberElement, Listed as ListedElement, Named as NamedElement, Unit as UnitElement, Rest, Zeros, Extent, Once, Filling, OnceFilling, UpToZero, Bits, CopyOut, Part, Field, Case, Body as BodyDef, Struct as StructDef, Casetype as CasetypeDef, TypeDef}
+use Rattle.td_core.specs.Weights.{option_nodes, action_nodes, element_nodes, source_nodes, extent_nodes, part_nodes, total, fields_nodes, default_nodes, cases_nodes as module_cases_nodes, body_nodes, head_nodes}
+use Rattle.td_image_fits.specs.Imports.{Element, Number as NumberElement, Listed as ListedElement, Named as NamedElement, Unit as UnitElement, Rest, Zeros, Extent, Once, Filling, OnceFilling, UpToZero, Given, Source, Expression, FromCell, Left, Bits, CopyOut, Part, Field, Case, Body as BodyDef, Struct as StructDef, Casetype as CasetypeDef, TypeDef}
 use Rattle.td_expr.specs.Same.{constant_of}
 use Rattle.td_meaning.specs.Naming.{is_needed}
 use Rattle.td_meaning.specs.Meaning.{divides, equals}
 use Rattle.td_ir.specs.declared.instructions.Instr.TheVariants as i
 use Rattle.td_lower_blocks.specs.Block.{Done, Then, Stop, Guard, Window, size}
 use Rattle.td_lower_blocks.specs.Constructs.{Steps, ByConstant, Never, BySize, Inner, Uneven, CopyAll, Body, inner, steps, cases, body}
-use Rattle.td_lower_blocks.specs.Lowered.{expr_of, action_of, number_slot, bits_step, test_step, action_step, when, is_read, terms_of, arguments, parts_in, parts_steps, once_step, evenly, exactly, each_inner, one_inner, constant_step, filling_step, once_filling_step, up_to_zero_step, shape_step, copied_step, content_step, fields_steps, last_case, cases_of, body_of, guarded_body, definition_body}
+use Rattle.td_lower_blocks.specs.Lowered.{expr_of, action_of, number_slot, bits_step, test_step, action_step, when, is_read, terms_of, arguments, parts_in, parts_steps, once_step, evenly, exactly, each_inner, one_inner, constant_step, filling_step, once_filling_step, up_to_zero_step, source_step, shape_step, copied_step, content_step, fields_steps, last_case, cases_of, body_of, guarded_body, definition_body}
 use Rattle.td_image_fits.proofs.Values.{value_size, values_size, acts_size}
 use Rattle.td_core.proofs.Nodes.{some_parts}
 use Rattle.td_verify_lowered.proofs.Measured.{nodes_are, all_are, acts_are, args_are}
@@ -147,12 +147,21 @@ module _ (t : ℕ) where
   zero_size site Rest e k = omega arith
   zero_size site Zeros e k = omega arith
 
+  source_size : (source : Source) (slot : ℕ) (k : Steps) → size (steps (source_step t source slot k)) ≤ 1 + (5 * source_nodes source + size (steps k))
+  source_size (Expression span e) slot k =
+      let x = value_size (suc t) (expr_of e) (Then (i.Op slot 6 (suc t) (suc t)) (steps k)) in
+      let y = nodes_are e in
+      omega (arith, x, y)
+  source_size (FromCell cell) slot k = omega arith
+  source_size Left slot k = omega arith
+
   shape_size : (slot site : ℕ) (needed : Bool) (element : Element) (extent : Extent) (k : Steps)
       → size (steps (shape_step t element extent needed slot site k)) ≤ 12 + (5 * (element_nodes element + extent_nodes extent) + size (steps k))
   shape_size slot site needed element Once k = let x = once_size slot site needed element k in omega (arith, x)
   shape_size slot site needed element (Filling e step) k = let x = filling_size site (constant_of e) step element e k in omega (arith, x)
   shape_size slot site needed element (OnceFilling e step) k = let x = once_filling_size site (constant_of e) step element e k in omega (arith, x)
   shape_size slot site needed element (UpToZero e) k = let x = zero_size site element e k in omega (arith, x)
+  shape_size slot site needed element (Given source) k = let x = source_size source slot k in omega (arith, x)
 
   copied_size : (site : ℕ) (o : Option ℕ) (w : CopyOut) (e : Term) (k : Steps) → size (steps (copied_step t o w e site k)) ≤ 4 + (5 * measure e + size (steps k))
   copied_size site None w e k =
@@ -168,6 +177,7 @@ module _ (t : ℕ) where
   content_size slot site needed element (Filling e step) (Some w) k = let x = copied_size site (constant_of e) w e k in omega (arith, x)
   content_size slot site needed element (OnceFilling e step) (Some w) k = shape_size slot site needed element (OnceFilling e step) k
   content_size slot site needed element (UpToZero e) (Some w) k = shape_size slot site needed element (UpToZero e) k
+  content_size slot site needed element (Given source) (Some w) k = shape_size slot site needed element (Given source) k
 
   fields_size : (site L : ℕ) (fs : List Field) → Each (λ f. HasParts f.parts) fs → size (steps (fields_steps t site L fs)) ≤ 1 + 16 * fields_nodes fs
   fields_size site L [] h = omega arith

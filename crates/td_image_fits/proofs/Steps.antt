@@ -7,7 +7,7 @@ use Rattle.td_num.specs.declared.number.Width.TheVariants.{One, Two, Four, Eight
 use Rattle.td_num.specs.Lists.{Each}
 use Rattle.td_ast.specs.declared.fields.ExtentTree.{ExtentTree}
 use Rattle.td_ast.specs.declared.fields.ExtentTree.TheVariants as after_name
-use Rattle.td_image_fits.specs.Imports.{FieldTree, CaseTree, Element, Extent, Once, Filling, OnceFilling, UpToZero, Field, Case, Body, Struct, Casetype, Known, Scope}
+use Rattle.td_image_fits.specs.Imports.{FieldTree, CaseTree, Element, Extent, Once, Filling, OnceFilling, UpToZero, Given, Source, Field, Case, Body, Struct, Casetype, Known, Scope}
 use Rattle.td_core.specs.declared.kind.Kind.{Kind}
 use Rattle.td_core.specs.Term.{Term}
 use Rattle.td_core.specs.WellFormed.{OfSome}
@@ -19,6 +19,8 @@ use Rattle.td_elab_rules.specs.Known as known
 use Rattle.td_elab_rules.specs.Sorts.{core_of}
 use Rattle.td_elab_rules.specs.Types.{element_of}
 use Rattle.td_elab_rules.specs.Extents.{step_of, zero_ended, extent_core}
+use Rattle.td_elab_rules.specs.Actions.{stored_cell}
+use Rattle.td_elab_rules.specs.Given.{element_number, tree_source, held_source, given_extent}
 use Rattle.td_elab_rules.specs.Fields.{with_field, flats_of, fields_core}
 use Rattle.td_elab_rules.specs.Casetypes.{cases_core, default_core}
 use Rattle.td_elab_rules.proofs.Whole.{gathered_each}
@@ -69,6 +71,7 @@ module _ (kinds : ℕ → Kind) (low : (j : ℕ) → IsKindLow (kinds j)) where
   field_low e (Filling z step) = sized_low (constant_of z)
   field_low e (OnceFilling z step) = sized_low (constant_of z)
   field_low e (UpToZero z) = tt
+  field_low e (Given source) = omega arith
 
   fields_low : (fs : List Field) → IsKindLow (fields_kind kinds fs)
   fields_low [] = omega arith
@@ -122,6 +125,10 @@ module _ (names : List (List ℕ)) (k : Known) (low : Each IsKindLow k.kinds) wh
   zero_small element.Rest z = tt
   zero_small element.Zeros z = tt
 
+  given_small : (o : Option Source) → HasSmallStep (given_extent o)
+  given_small None = tt
+  given_small (Some source) = tt
+
   extent_small : (s : Scope) (e : Element) (x : Option ExtentTree) → HasSmallStep (extent_core k s e x)
   extent_small s e None = tt
   extent_small s e (Some (after_name.Bytes z)) = step_small e
@@ -129,6 +136,8 @@ module _ (names : List (List ℕ)) (k : Known) (low : Each IsKindLow k.kinds) wh
   extent_small s e (Some (after_name.SingleElement z)) = step_small e
   extent_small s e (Some (after_name.Zeroterm z)) = zero_small e (core_of k s z)
   extent_small s e (Some (after_name.Bits n)) = tt
+  extent_small s e (Some (after_name.Given z)) = given_small (tree_source k s (element_number e) z)
+  extent_small s e (Some (after_name.OfCell star p)) = given_small (held_source (element_number e) (stored_cell k s p))
 
   flats_small : (s : Scope) (fs : List FieldTree) → Each (λ x. HasSmallStep x.extent) (flats_of names k s fs)
   flats_small s [] = tt

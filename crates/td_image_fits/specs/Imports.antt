@@ -16,10 +16,12 @@ pub use Rattle.td_core.specs.declared.module.CopyOut.{CopyOut}
 pub use Rattle.td_core.specs.declared.module.Element.{Element}
 pub use Rattle.td_core.specs.declared.module.Element.TheVariants.{Listed, Named, Number, Rest, Unit, Zeros}
 pub use Rattle.td_core.specs.declared.module.Extent.{Extent}
-pub use Rattle.td_core.specs.declared.module.Extent.TheVariants.{Filling, Once, OnceFilling, UpToZero}
+pub use Rattle.td_core.specs.declared.module.Extent.TheVariants.{Filling, Given, Once, OnceFilling, UpToZero}
 pub use Rattle.td_core.specs.declared.module.Field.{Field}
 pub use Rattle.td_core.specs.declared.module.Module.{Module}
 pub use Rattle.td_core.specs.declared.module.Part.{Part}
+pub use Rattle.td_core.specs.declared.module.Source.{Source}
+pub use Rattle.td_core.specs.declared.module.Source.TheVariants.{Cell as FromCell, Expression, Left}
 pub use Rattle.td_core.specs.declared.module.TypeDef.{TypeDef}
 pub use Rattle.td_elab_rules.specs.declared.breach.Rule.TheVariants.{BadAction, Mismatch, Narrowing, Twice}
 pub use Rattle.td_elab_rules.specs.declared.known.Known.{Known}

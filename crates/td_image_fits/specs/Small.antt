@@ -2,7 +2,7 @@
 -- each checked module.
 use Rattle.std.specs.Prelude.{ℕ, ◌^◌, ◌<◌, ◌≤◌, length}
 use Rattle.td_num.specs.Lists.{Each}
-use Rattle.td_image_fits.specs.Imports.{Extent, Once, Filling, OnceFilling, UpToZero, Field, Body, Struct, Casetype, Module}
+use Rattle.td_image_fits.specs.Imports.{Extent, Once, Filling, OnceFilling, UpToZero, Given, Field, Body, Struct, Casetype, Module}
 use Rattle.td_core.specs.declared.limits.TheConstants.{MOST_DEFINITIONS, MOST_NODES}
 use Rattle.td_core.specs.Weights.{total}
 use Rattle.td_core.specs.WellFormed.{OfSome, EachField}
@@ -16,6 +16,7 @@ HasSmallStep Once = Unit {0}
 HasSmallStep (Filling size step) = OfSome IsWord step
 HasSmallStep (OnceFilling size step) = OfSome IsWord step
 HasSmallStep (UpToZero size) = Unit {0}
+HasSmallStep (Given source) = Unit {0}
 
 abbrev pub IsFieldSmall : Field → Type 0
 IsFieldSmall f = HasSmallStep f.extent

@@ -134,6 +134,7 @@ module _ (c : Parts) (n : ℕ) (message places : List ℕ) (g : ℕ → ℕ) (ca
       (record { flow = Goes (pc + 1) next; touched = places_from s.pos few; steps = 1 + few }) (plain (Fails NotEnough (g site) s.start s))
       (record { flow = Goes (pc + 1) next; touched = places_from s.pos few; steps = 1 + few }) (plain (Fails NotEnough site s.start s))
       (ap (after (places_from s.pos few) (1 + few)) (G (pc + 1) next)) (ap (after [] 1) (fails NotEnough site s.start s a))
+  step_same (i.Left into) s a = ap (after [] 1) (G (pc + 1) (with_reg s into (left s)))
 
 -- the exits from all instructions of a stretch
 pub exits_same : (c : Parts) (n : ℕ) (message places : List ℕ) (g : ℕ → ℕ) (calls' calls : Callees) → ((a b m : ℕ) (s : State) → calls' a b m s ≡ calls a b m s)

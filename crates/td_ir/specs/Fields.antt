@@ -39,6 +39,7 @@ makers =
     (λ f. i.Set f.b f.c) ∷
     (λ f. i.Mark) ∷
     (λ f. i.Copy f.b f.c f.site) ∷
+    (λ f. i.Left f.a) ∷
     []
 
 abbrev pub instruction_by : ℕ → Fields → Instr
@@ -80,6 +81,7 @@ fields_of (i.Get into cell) = record { number = 23; x = 0; a = into; b = 0; c = 
 fields_of (i.Set source cell) = record { number = 24; x = 0; a = 0; b = source; c = cell; t = 0; site = 0; k = 0 }
 fields_of i.Mark = record { number = 25; x = 0; a = 0; b = 0; c = 0; t = 0; site = 0; k = 0 }
 fields_of (i.Copy size buffer site) = record { number = 26; x = 0; a = 0; b = size; c = buffer; t = 0; site = site; k = 0 }
+fields_of (i.Left into) = record { number = 27; x = 0; a = into; b = 0; c = 0; t = 0; site = 0; k = 0 }
 
 abbrev pub in_field : Fields → OperandField → ℕ
 in_field fields f.X = fields.x

@@ -111,3 +111,4 @@ effect c n message places pc i.Mark s = plain (Goes (pc + 1) (record s { start =
 effect c n message places pc (i.Copy size buffer site) s =
     let first = (routine_of c n).cells + 2 * buffer in
     copied (pc + 1) (reg s size) (slice_index (routine_of c n).buffers buffer) (slice_index places first) (slice_index places (first + 1)) site s
+effect c n message places pc (i.Left into) s = plain (Goes (pc + 1) (with_reg s into (left s)))

@@ -41,6 +41,7 @@ table =
     record { name = codes "Set"; operands = Source ∷ Cell ∷ [] } ∷
     record { name = codes "Mark"; operands = [] } ∷
     record { name = codes "Copy"; operands = Size ∷ Buffer ∷ Site ∷ [] } ∷
+    record { name = codes "Left"; operands = Into ∷ [] } ∷
     []
 
 -- a row of a table by its number; a number that it hasn't stands for one without name and operands

@@ -139,6 +139,7 @@ pub fn instruction_of(f: Fields) -> Instr
             buffer: f.c,
             site: f.site,
         },
+        27 => Instr::Left { into: f.a },
         // 25; no fields have a greater number
         _ => Instr::Mark,
     }
@@ -297,6 +298,10 @@ pub fn fields_of(instruction: Instr) -> Fields
             c: buffer,
             site,
             ..no_operands(26)
+        },
+        Instr::Left { into } => Fields {
+            a: into,
+            ..no_operands(27)
         },
     }
 }

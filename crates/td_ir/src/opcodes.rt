@@ -98,7 +98,7 @@ macro_rules! rows {
 }
 
 /// The kinds of instruction by their numbers, from 0 on.
-pub const OPCODES: [Opcode; 27] = rows! {
+pub const OPCODES: [Opcode; 28] = rows! {
     "Const" Into Value;
     "Member" Into Source Set;
     "Op" Into Operator Left Right;
@@ -126,6 +126,7 @@ pub const OPCODES: [Opcode; 27] = rows! {
     "Set" Source Cell;
     "Mark";
     "Copy" Size Buffer Site;
+    "Left" Into;
 };
 
 /// What a number that no kind has stands for.

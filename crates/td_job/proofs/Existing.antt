@@ -29,6 +29,7 @@ use Rattle.td_job.specs.declared.error.JobRule.TheVariants as rule
 use Rattle.td_job.specs.declared.error.JobError.TheVariants.{Fault}
 use Rattle.td_job.specs.declared.run_job.RunJob.{RunJob}
 use Rattle.td_job.specs.Fields.{Reads, field_of, text_of, bytes_or_none}
+use Rattle.td_meaning.specs.Copies.{opened}
 use Rattle.td_job.specs.Values.{given_args, given_cells}
 use Rattle.td_job.specs.Written.{number_datum, datum_of, datums_of}
 use Rattle.td_job.specs.Jobs.{given, given_by, given_stores, spelled_bytes, spelled_or_none, EntryFault, IsEntry, FirstFaultBy, FirstFaultOf, later_faults, length_faults, IsJob, IsRunJob, RefusedJobBy, RefusedJobOf, RefusedJob}
@@ -74,13 +75,13 @@ mutual
   data_hold (item value values) = (datum_holds value, data_hold values)
 
 -- and those that spell one
-pub written_bytes : (m : Module) (entry : Entry) (args : List ℕ) (value : Data) (o : Option (List ℕ)) → spelling m entry args (datum_of value) ≡ o → All (λ b. b < 256) (spelled_or_none o)
-written_bytes m entry args value None e = All-nil (λ b. b < 256)
-written_bytes m entry args value (Some bytes) e = spelled_are_bytes m entry args (datum_of value) bytes (datum_holds value) e
+pub written_bytes : (m : Module) (entry : Entry) (args cells : List ℕ) (value : Data) (o : Option (List ℕ)) → spelling m entry args cells (datum_of value) ≡ o → All (λ b. b < 256) (spelled_or_none o)
+written_bytes m entry args cells value None e = All-nil (λ b. b < 256)
+written_bytes m entry args cells value (Some bytes) e = spelled_are_bytes m entry args cells (datum_of value) bytes (datum_holds value) e
 
-written_small : (m : Module) (entry : Entry) (args : List ℕ) (value : Data) → AreBytes (spelled_or_none (spelling m entry args (datum_of value)))
-written_small m entry args value =
-    are_bytes (spelled_or_none (spelling m entry args (datum_of value))) (written_bytes m entry args value (spelling m entry args (datum_of value)) refl)
+written_small : (m : Module) (entry : Entry) (args cells : List ℕ) (value : Data) → AreBytes (spelled_or_none (spelling m entry args cells (datum_of value)))
+written_small m entry args cells value =
+    are_bytes (spelled_or_none (spelling m entry args cells (datum_of value))) (written_bytes m entry args cells value (spelling m entry args cells (datum_of value)) refl)
 
 same_name : (found : Option (List ℕ)) (name : List ℕ) → (found ≡ Some name) ⊎ (found ≡ Some name → ⊥)
 same_name None name = inr (λ h. cc)
@@ -149,7 +150,7 @@ has_message None m entry job h =
     let length = both_empty _ _ stretches.0 in
     (spelled_small (text_of key.Bytes job), has_length _ _ _ length.1)
 has_message (Some value) m entry job h =
-    (written_small m entry (given_args (entry_definition m entry.number) job) value, (length (given_by (Some value) m entry job).bytes, refl))
+    (written_small m entry (given_args (entry_definition m entry.number) job) (opened m entry (given_cells (entry_definition m entry.number) job)) value, (length (given_by (Some value) m entry job).bytes, refl))
 
 faultless_job : (m : Module) (job : Data) (entry : Entry) → IsEntry m (text_of key.Entry job) entry → later_faults m entry job ≡ []
     → (j : RunJob) × IsJob m job j

@@ -37,7 +37,7 @@ none_refused : WritingIsExact → KindsAreAdmitted → (m : Module) (entry : Ent
 none_refused law kinds m entry args cells v h bytes a = by (writing whole m entry args (opened m entry cells) v) refl
   where
     by : (w : Written) → writing whole m entry args (opened m entry cells) v ≡ w → write_faults w ≡ []
-    by (Done b last) e = refl
+    by (Done b last claims) e = refl
     by (Refused r places) e = absurd (nowhere m entry args cells v law kinds h r places e bytes a)
 
 pub written_as : WritingIsExact → KindsAreAdmitted → (m : Module) (entry : Entry) (args cells : List ℕ) (v : Datum) → IsWritable m → (bytes : List ℕ) (answer : Outcome)
@@ -48,11 +48,11 @@ written_as law kinds m entry args cells v h bytes answer x =
 
 -- a value without a fault is spelled within the limit
 pub faultless_short : WritingIsExact → KindsAreAdmitted → (m : Module) (entry : Entry) (args cells : List ℕ) (v : Datum) → IsWritable m → write_faults (writing whole m entry args (opened m entry cells) v) ≡ []
-    → length (spelled_or_none (spelling m entry args v)) ≤ MOST_WRITTEN
+    → length (spelled_or_none (spelling m entry args (opened m entry cells) v)) ≤ MOST_WRITTEN
 faultless_short law kinds m entry args cells v h none = by (writing whole m entry args (opened m entry cells) v) none (law m entry args (opened m entry cells) v h.copying (kinds m h.formed h.kinds))
   where
-    by : (w : Written) → write_faults w ≡ [] → IsExact w (spelling m entry args v) (λ bytes. (meaning m entry args (opened m entry cells) bytes).ending) → length (spelled_or_none (spelling m entry args v)) ≤ MOST_WRITTEN
-    by (Done bytes last) e x = subst (λ o. length (spelled_or_none o) ≤ MOST_WRITTEN) (sym x.0) x.1.0
+    by : (w : Written) → write_faults w ≡ [] → IsExact w (spelling m entry args (opened m entry cells) v) (λ bytes. (meaning m entry args (opened m entry cells) bytes).ending) → length (spelled_or_none (spelling m entry args (opened m entry cells) v)) ≤ MOST_WRITTEN
+    by (Done bytes last claims) e x = subst (λ o. length (spelled_or_none o) ≤ MOST_WRITTEN) (sym x.0) x.1.0
     by (Refused r places) e x = absurd (cc)
 
 front : (a b c d w s u : List JobError) → a ≡ [] → b ≡ [] → c ≡ [] → d ≡ [] → a ++ b ++ (c ++ d ++ w) ++ s ++ u ≡ w ++ s ++ u
@@ -68,13 +68,13 @@ module _ (m : Module) (job value : Data) (entry : Entry) (begins : BeginsWithVal
   -- the faults are those of writing, and those after the value
   written_front : faults_by (Some value) m entry job
       ≡ write_faults (writing whole m entry (given_args (entry_definition m entry.number) job) (opened m entry (given_cells (entry_definition m entry.number) job)) (datum_of value))
-      ++ stores_left (words_with (length (spelled_or_none (spelling m entry (given_args (entry_definition m entry.number) job) (datum_of value)))))
+      ++ stores_left (words_with (length (spelled_or_none (spelling m entry (given_args (entry_definition m entry.number) job) (opened m entry (given_cells (entry_definition m entry.number) job)) (datum_of value)))))
       ++ names_left
   written_front =
       let d = entry_definition m entry.number in
       front (args_faults (params_at d) (field_of key.Args job)) (cells_faults (cells_at d) (field_of key.Cells job)) (beside_faults job) (form_faults key.Value (form_of value))
       (write_faults (writing whole m entry (given_args d job) (opened m entry (given_cells d job)) (datum_of value)))
-      (stores_left (words_with (length (spelled_or_none (spelling m entry (given_args d job) (datum_of value)))))) names_left
+      (stores_left (words_with (length (spelled_or_none (spelling m entry (given_args d job) (opened m entry (given_cells d job)) (datum_of value)))))) names_left
       begins.args begins.cells begins.alone begins.form
 
   pub written_first : (args cells : List ℕ) → args ≡ given_args (entry_definition m entry.number) job → cells ≡ given_cells (entry_definition m entry.number) job → (e : JobError)
@@ -84,13 +84,13 @@ module _ (m : Module) (job value : Data) (entry : Entry) (begins : BeginsWithVal
       let d = entry_definition m entry.number in
       let here = subst (λ faults. IsFirst faults e) (λ i. write_faults (writing whole m entry (ha i) (opened m entry (hc i)) (datum_of value))) first in
       let w = write_faults (writing whole m entry (given_args d job) (opened m entry (given_cells d job)) (datum_of value)) in
-      let s = stores_left (words_with (length (spelled_or_none (spelling m entry (given_args d job) (datum_of value))))) in
+      let s = stores_left (words_with (length (spelled_or_none (spelling m entry (given_args d job) (opened m entry (given_cells d job)) (datum_of value))))) in
       let more = first_of_more (w ++ s) names_left e (first_of_more w s e here) in
       inr (inr (entry, begins.named, record { others = more.others; is = written_front ∙ more.is }))
 
 module _ (m : Module) (job value : Data) (entry : Entry) (args cells bytes : List ℕ) (s : IsStarted m job value entry args cells bytes) where
-  spelled_there : spelled_or_none (spelling m entry (given_args (entry_definition m entry.number) job) (datum_of value)) ≡ bytes
-  spelled_there = (λ i. spelled_or_none (spelling m entry (sym s.args_are i) (datum_of value))) ∙ ap spelled_or_none s.written.spelled
+  spelled_there : spelled_or_none (spelling m entry (given_args (entry_definition m entry.number) job) (opened m entry (given_cells (entry_definition m entry.number) job)) (datum_of value)) ≡ bytes
+  spelled_there = (λ i. spelled_or_none (spelling m entry (sym s.args_are i) (opened m entry (sym s.cells_are i)) (datum_of value))) ∙ ap spelled_or_none s.written.spelled
 
   none_written : write_faults (writing whole m entry (given_args (entry_definition m entry.number) job) (opened m entry (given_cells (entry_definition m entry.number) job)) (datum_of value)) ≡ []
   none_written = (λ i. write_faults (writing whole m entry (sym s.args_are i) (opened m entry (sym s.cells_are i)) (datum_of value))) ∙ s.written.faultless
@@ -100,7 +100,7 @@ module _ (m : Module) (job value : Data) (entry : Entry) (args cells bytes : Lis
   rest_faults =
       let last = unknown_faults path.Unknown (first_unknown run_keys (as_object job)) in
       written_front m job value entry s.begins
-      ∙ ap (λ w. w ++ stores_faults (words_with (length (spelled_or_none (spelling m entry (given_args (entry_definition m entry.number) job) (datum_of value))))) (field_of key.Stores job) ++ last) none_written
+      ∙ ap (λ w. w ++ stores_faults (words_with (length (spelled_or_none (spelling m entry (given_args (entry_definition m entry.number) job) (opened m entry (given_cells (entry_definition m entry.number) job)) (datum_of value))))) (field_of key.Stores job) ++ last) none_written
       ∙ ap (λ b. stores_faults (words_with (length b)) (field_of key.Stores job) ++ last) spelled_there
 
   pub rest_first : (count : ℕ) → count ≡ words_with (length bytes) → (e : JobError)

@@ -225,7 +225,7 @@ of_written bytes faults = record {
 -- by a value, from these arguments and cells
 abbrev pub from_datum : Module → Entry → List ℕ → List ℕ → Data → Data → Given
 from_datum m entry args cells job value =
-    of_written (spelled_or_none (spelling m entry args (datum_of value)))
+    of_written (spelled_or_none (spelling m entry args (opened m entry cells) (datum_of value)))
     (beside_faults job ++ form_faults key.Value (form_of value) ++ write_faults (writing whole_numbers m entry args (opened m entry cells) (datum_of value)))
 
 abbrev pub from_value : Module → Entry → Data → Data → Given

@@ -15,7 +15,7 @@ use Rattle.td_job.specs.Written.{datum_of, write_faults}
 -- a value is written, as these bytes
 pub record IsWrittenAs (m : Module) (entry : Entry) (args cells : List ℕ) (v : Datum) (bytes : List ℕ) : Type 0 where
   pub faultless : write_faults (writing whole m entry args (opened m entry cells) v) ≡ []
-  pub spelled : spelling m entry args v ≡ Some bytes
+  pub spelled : spelling m entry args (opened m entry cells) v ≡ Some bytes
   pub short : length bytes ≤ MOST_WRITTEN
 
 -- so is that of a job, whose first fields have no fault and give these arguments and cells

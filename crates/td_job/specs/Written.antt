@@ -84,5 +84,5 @@ refused_by Size places = refused_at Size places
 refused_by Long places = Fault rule.Limit (path.Whole key.Value)
 
 abbrev pub write_faults : Written → List JobError
-write_faults (Done bytes cells) = []
+write_faults (Done bytes cells claims) = []
 write_faults (Refused r places) = refused_by r places ∷ []

@@ -3,7 +3,7 @@ use Rattle.std.specs.Prelude.{◌≡◌, ℕ, Bool, true, false, ◌||◌, ◌&&
 use Rattle.td_num.specs.Numbers.{places_from}
 use Rattle.td_core.specs.declared.kind.Kind.{Kind}
 use Rattle.td_core.specs.declared.module.Extent.{Extent}
-use Rattle.td_core.specs.declared.module.Extent.TheVariants.{Once, Filling, OnceFilling, UpToZero}
+use Rattle.td_core.specs.declared.module.Extent.TheVariants.{Once, Filling, OnceFilling, UpToZero, Given}
 use Rattle.td_core.specs.declared.module.Field.{Field}
 use Rattle.td_core.specs.declared.module.Case.{Case}
 use Rattle.td_core.specs.declared.module.Body.{Body}
@@ -22,6 +22,7 @@ is_filled Once = false
 is_filled (Filling size step) = true
 is_filled (OnceFilling size step) = false
 is_filled (UpToZero size) = false
+is_filled (Given source) = false
 
 abbrev pub fault_if : Bool → KindFault → List KindFault
 fault_if true fault = fault ∷ []

@@ -5,7 +5,7 @@ use Rattle.td_core.specs.declared.kind.Kind.{Kind}
 use Rattle.td_core.specs.declared.module.Element.{Element}
 use Rattle.td_core.specs.declared.module.Element.TheVariants.{Number, Listed, Named, Unit as UnitElement, Rest, Zeros}
 use Rattle.td_core.specs.declared.module.Extent.{Extent}
-use Rattle.td_core.specs.declared.module.Extent.TheVariants.{Once, Filling, OnceFilling, UpToZero}
+use Rattle.td_core.specs.declared.module.Extent.TheVariants.{Once, Filling, OnceFilling, UpToZero, Given}
 use Rattle.td_core.specs.declared.module.Field.{Field}
 use Rattle.td_core.specs.declared.module.Case.{Case}
 use Rattle.td_core.specs.declared.module.Body.{Body}
@@ -64,12 +64,13 @@ abbrev pub sized_kind : Option ℕ → Kind
 sized_kind None = at_least 0
 sized_kind (Some n) = capped (exactly n)
 
--- an array up to a zero has at least one element
+-- an array up to a zero has at least one element; a value that is given takes no bytes
 abbrev pub field_kind : (ℕ → Kind) → Element → Extent → Kind
 field_kind kinds element Once = element_kind kinds element
 field_kind kinds element (Filling size step) = sized_kind (constant_of size)
 field_kind kinds element (OnceFilling size step) = sized_kind (constant_of size)
 field_kind kinds element (UpToZero size) = at_least (element_kind kinds element).least
+field_kind kinds element (Given source) = exactly 0
 
 -- Definitions
 

@@ -19,6 +19,7 @@ pub(crate) fn field_kind(kinds: &[Kind], element: &Element, extent: &Extent) -> 
         Extent::Once => element_kind(kinds, element),
         Extent::Filling { size, .. } | Extent::OnceFilling { size, .. } => sized(constant_of(size)),
         Extent::UpToZero { .. } => at_least(element_kind(kinds, element).least),
+        Extent::Given(_) => exactly(0),
     }
 }
 

@@ -6,7 +6,7 @@ use Rattle.td_ast.specs.Trees as tree
 use Rattle.td_ast.specs.Statements.{Statement, Store, StoreField, Var, If, IfElse, Return, Abort, Statements, End, More, block_of}
 use Rattle.td_ast.specs.declared.expressions.SizeofOperand.{SizeofOperand}
 use Rattle.td_ast.specs.declared.expressions.SizeofOperand.TheVariants as operand
-use Rattle.td_limits.specs.Imports.{Assigned, Value, FieldPtr, ActionTree, Done, Copied, PlainTree, TypeKind, ExtentTree, Bytes, ByteSize, SingleElement, Zeroterm, Bits, FieldTree, HeadTree, ParamTree, TargetTree, ItemTree, CaseTree, Def, Define, Enum, Alias, Struct, Casetype, Output}
+use Rattle.td_limits.specs.Imports.{Assigned, Value, FieldPtr, ActionTree, Done, Copied, PlainTree, TypeKind, ExtentTree, Bytes, ByteSize, SingleElement, Zeroterm, Bits, Given, OfCell, FieldTree, HeadTree, ParamTree, TargetTree, ItemTree, CaseTree, Def, Define, Enum, Alias, Struct, Casetype, Output}
 use Rattle.td_ast.specs.declared.names.ConstTree.{ConstTree}
 use Rattle.td_ast.specs.declared.names.ConstTree.TheVariants as constant
 use Rattle.td_ast.specs.declared.names.PlainTree.TheVariants as plain
@@ -76,6 +76,8 @@ extent_depth known (Some (ByteSize e)) = tree_depth known e
 extent_depth known (Some (SingleElement e)) = tree_depth known e
 extent_depth known (Some (Zeroterm e)) = tree_depth known e
 extent_depth known (Some (Bits n)) = 0
+extent_depth known (Some (Given e)) = tree_depth known e
+extent_depth known (Some (OfCell at n)) = 0
 
 abbrev pub field_depth : Measures → FieldTree → ℕ
 field_depth known f =

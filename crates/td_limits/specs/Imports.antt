@@ -9,7 +9,7 @@ pub use Rattle.td_ast.specs.declared.definitions.Def.TheVariants.{Alias, Casetyp
 pub use Rattle.td_ast.specs.declared.definitions.ItemTree.{ItemTree}
 pub use Rattle.td_ast.specs.declared.definitions.ModuleTree.{ModuleTree}
 pub use Rattle.td_ast.specs.declared.fields.ExtentTree.{ExtentTree}
-pub use Rattle.td_ast.specs.declared.fields.ExtentTree.TheVariants.{Bits, ByteSize, Bytes, SingleElement, Zeroterm}
+pub use Rattle.td_ast.specs.declared.fields.ExtentTree.TheVariants.{Bits, ByteSize, Bytes, Given, OfCell, SingleElement, Zeroterm}
 pub use Rattle.td_ast.specs.declared.fields.FieldTree.{FieldTree}
 pub use Rattle.td_ast.specs.declared.fields.TypeKind.{TypeKind}
 pub use Rattle.td_ast.specs.declared.names.PlainTree.{PlainTree}

@@ -1,10 +1,10 @@
 -- The nodes of a text (own rule): definitions, parameters, fields and slots, cases, items of enums, statements and nodes
--- of expressions. Constants of items and cases, rooms of copy buffers, widths of bits, `{:copy}`, `field_ptr` and the name in
--- `sizeof` are none.
+-- of expressions. Constants of items and cases, rooms of copy buffers, widths of bits, `{:copy}`, `field_ptr`, the cell of `= *p`
+-- and the name in `sizeof` are none.
 use Rattle.std.specs.Prelude.{ℕ, ◌+◌, List, length, map, sum, Option, Some, None}
 use Rattle.td_ast.specs.Trees.{Tree, tree_size}
 use Rattle.td_ast.specs.Statements.{Statement, Store, StoreField, Var, If, IfElse, Return, Abort, Statements, End, More, block_of}
-use Rattle.td_limits.specs.Imports.{Assigned, Value, FieldPtr, ActionTree, Done, Copied, TypeKind, ExtentTree, Bytes, ByteSize, SingleElement, Zeroterm, Bits, FieldTree, HeadTree, CaseTree, Def, Define, Enum, Alias, Struct, Casetype, Output}
+use Rattle.td_limits.specs.Imports.{Assigned, Value, FieldPtr, ActionTree, Done, Copied, TypeKind, ExtentTree, Bytes, ByteSize, SingleElement, Zeroterm, Bits, Given, OfCell, FieldTree, HeadTree, CaseTree, Def, Define, Enum, Alias, Struct, Casetype, Output}
 use Rattle.td_ast.specs.declared.fields.TypeKind.TheVariants as type
 
 abbrev pub option_nodes : Option Tree → ℕ
@@ -48,6 +48,8 @@ extent_nodes (Some (ByteSize e)) = tree_size e
 extent_nodes (Some (SingleElement e)) = tree_size e
 extent_nodes (Some (Zeroterm e)) = tree_size e
 extent_nodes (Some (Bits n)) = 0
+extent_nodes (Some (Given e)) = tree_size e
+extent_nodes (Some (OfCell at n)) = 0
 
 -- of a field's expressions and statements
 abbrev pub inner_nodes : FieldTree → ℕ

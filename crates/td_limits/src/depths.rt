@@ -167,6 +167,8 @@ fn extent_depth(known: &Table<Measure>, extent: &Option<ExtentTree>) -> u64
         Some(ExtentTree::SingleElement(e)) => tree_depth(known, e),
         Some(ExtentTree::Zeroterm(e)) => tree_depth(known, e),
         Some(ExtentTree::Bits(_)) => 0,
+        Some(ExtentTree::Given(e)) => tree_depth(known, e),
+        Some(ExtentTree::OfCell(_, _)) => 0,
     }
 }
 

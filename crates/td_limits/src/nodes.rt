@@ -137,6 +137,8 @@ fn extent_nodes(extent: &Option<ExtentTree>) -> u64
         Some(ExtentTree::SingleElement(e)) => expr_nodes(e),
         Some(ExtentTree::Zeroterm(e)) => expr_nodes(e),
         Some(ExtentTree::Bits(_)) => 0,
+        Some(ExtentTree::Given(e)) => expr_nodes(e),
+        Some(ExtentTree::OfCell(_, _)) => 0,
     }
 }
 

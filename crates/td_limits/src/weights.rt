@@ -56,6 +56,8 @@ fn is_array(extent: &Option<ExtentTree>) -> bool
         Some(ExtentTree::SingleElement(_)) => true,
         Some(ExtentTree::Zeroterm(_)) => true,
         Some(ExtentTree::Bits(_)) => false,
+        Some(ExtentTree::Given(_)) => false,
+        Some(ExtentTree::OfCell(_, _)) => false,
     }
 }
 

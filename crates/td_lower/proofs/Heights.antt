@@ -4,15 +4,17 @@ use Rattle.std.proofs.lemmas.List.{length-map}
 use Rattle.td_core.specs.declared.expressions.Relation.{Relation}
 use Rattle.td_core.specs.declared.expressions.Relation.TheVariants.{Equal, NotEqual, Less, LessEqual, Greater, GreaterEqual}
 use Rattle.td_core.specs.Term.{Term, number, name, complement, negation, compute, compare, both, either, choice, range_okay, measure, Deed, done, set, keep, fork, answer, give_up}
-use Rattle.td_core.specs.Formed.{Bound, scalar_of, whole, param_bounds, given, part_bound, parts_scope, IsScoped, IsOptionScoped, IsDeedFormed, IsActionFormed, ArePartsFormed, AreArgsFormed, params_at, IsElementFormed, IsExtentFormed, AreFieldsFormed, AreCasesFormed, IsDefaultFormed, IsBodyFormed, IsDefinitionFormed}
+use Rattle.td_core.specs.Formed.{Bound, scalar_of, whole, param_bounds, given, part_bound, parts_scope, IsScoped, IsOptionScoped, IsDeedFormed, IsActionFormed, ArePartsFormed, AreArgsFormed, params_at, IsElementFormed, IsSourceFormed, IsExtentFormed, AreFieldsFormed, AreCasesFormed, IsDefaultFormed, IsBodyFormed, IsDefinitionFormed}
 use Rattle.td_core.specs.declared.expressions.Scalar.TheVariants as scalar
 use Rattle.td_lower.specs.Imports.{Param, Element, Number, Listed, Named, Unit as UnitElement, Rest, Zeros, CopyOut, Part, Field, Case, Body, Struct, Casetype, TypeDef}
 use Rattle.td_core.specs.declared.module.Extent.{Extent}
-use Rattle.td_core.specs.declared.module.Extent.TheVariants.{Once, Filling, OnceFilling, UpToZero}
-use Rattle.td_core.specs.Weights.{option_nodes, terms_nodes, deed_nodes, action_nodes, element_nodes, extent_nodes, part_nodes, total, fields_nodes, default_nodes, cases_nodes, body_nodes, head_nodes}
+use Rattle.td_core.specs.declared.module.Extent.TheVariants.{Once, Filling, OnceFilling, UpToZero, Given}
+use Rattle.td_core.specs.declared.module.Source.{Source}
+use Rattle.td_core.specs.declared.module.Source.TheVariants.{Expression, Cell as FromCell, Left}
+use Rattle.td_core.specs.Weights.{option_nodes, terms_nodes, deed_nodes, action_nodes, element_nodes, source_nodes, extent_nodes, part_nodes, total, fields_nodes, default_nodes, cases_nodes, body_nodes, head_nodes}
 use Rattle.td_lower_blocks.specs.Constructs.{Expr}
 use Rattle.td_lower_blocks.specs.Lowered.{compared_of, mask_of, expr_of, terms_of}
-use Rattle.td_lower_blocks.specs.Tops.{deed_levels, action_levels, parts_levels, fields_levels, default_levels, cases_levels, body_levels, definition_levels, top, terms_top, test_top, deed_top, action_top, parts_top, sized_top, shape_top, content_top, fields_top, default_top, cases_top, body_top, definition_top}
+use Rattle.td_lower_blocks.specs.Tops.{deed_levels, action_levels, parts_levels, fields_levels, default_levels, cases_levels, body_levels, definition_levels, top, terms_top, test_top, deed_top, action_top, parts_top, sized_top, source_top, shape_top, content_top, fields_top, default_top, cases_top, body_top, definition_top}
 use Rattle.td_core.proofs.Nodes.{some_node as some_measure, each_node as count_low}
 use Rattle.td_lower_blocks.proofs.Heights.{computed_top}
 
@@ -252,14 +254,20 @@ sized_low ds n cells scope t element size h s k =
     let z = value_low scope (suc t + length (terms_of element)) size s (omega (arith, k)) in
     omega (arith, x, y, z)
 
-shape_low : (ds : List TypeDef) (n : ℕ) (cells scope : List Bound) (t : ℕ) (element : Element) (extent : Extent) → IsElementFormed ds n cells scope element → IsExtentFormed scope extent → length scope ≤ t
+source_low : (cells scope : List Bound) (t : ℕ) (b : Bound) (source : Source) → IsSourceFormed cells scope b source → length scope ≤ t → source_top (suc t) source ≤ t + 4 + source_nodes source
+source_low cells scope t b (Expression span e) s k = (let x = value_low scope (suc t) e s (omega (arith, k)) in omega (arith, x))
+source_low cells scope t b (FromCell cell) s k = omega arith
+source_low cells scope t b Left s k = omega arith
+
+shape_low : (ds : List TypeDef) (n : ℕ) (cells scope : List Bound) (t : ℕ) (element : Element) (extent : Extent) → IsElementFormed ds n cells scope element → IsExtentFormed cells scope element extent → length scope ≤ t
     → shape_top t element extent ≤ t + 4 + (element_nodes element + extent_nodes extent)
 shape_low ds n cells scope t element Once h s k = (let x = element_low ds n cells scope t element h k in omega (arith, x))
 shape_low ds n cells scope t element (Filling size step) h s k = sized_low ds n cells scope t element size h s k
 shape_low ds n cells scope t element (OnceFilling size step) h s k = sized_low ds n cells scope t element size h s k
 shape_low ds n cells scope t element (UpToZero size) h s k = (let x = value_low scope (suc t) size s (omega (arith, k)) in omega (arith, x))
+shape_low ds n cells scope t element (Given source) h s k = (let x = source_low cells scope t (part_bound element (Given source) None) source s k in omega (arith, x))
 
-content_low : (ds : List TypeDef) (n : ℕ) (cells scope : List Bound) (t : ℕ) (element : Element) (extent : Extent) (copy : Option CopyOut) → IsElementFormed ds n cells scope element → IsExtentFormed scope extent → length scope ≤ t
+content_low : (ds : List TypeDef) (n : ℕ) (cells scope : List Bound) (t : ℕ) (element : Element) (extent : Extent) (copy : Option CopyOut) → IsElementFormed ds n cells scope element → IsExtentFormed cells scope element extent → length scope ≤ t
     → content_top t element extent copy ≤ t + 4 + (element_nodes element + extent_nodes extent)
 content_low ds n cells scope t element extent None h s k = shape_low ds n cells scope t element extent h s k
 content_low ds n cells scope t element Once (Some w) h s k = shape_low ds n cells scope t element Once h s k
@@ -267,6 +275,7 @@ content_low ds n cells scope t element (Filling size step) (Some w) h s k =
     (let x = shape_low ds n cells scope t element (Filling size step) h s k in let y = value_low scope (suc t) size s (omega (arith, k)) in omega (arith, x, y))
 content_low ds n cells scope t element (OnceFilling size step) (Some w) h s k = shape_low ds n cells scope t element (OnceFilling size step) h s k
 content_low ds n cells scope t element (UpToZero size) (Some w) h s k = shape_low ds n cells scope t element (UpToZero size) h s k
+content_low ds n cells scope t element (Given source) (Some w) h s k = shape_low ds n cells scope t element (Given source) h s k
 
 field_level : (L : ℕ) (fs : List Field) → L ≤ fields_levels L fs
 field_level L [] = omega arith

@@ -1,7 +1,7 @@
 -- Blocks of the language never go on behind their end. Cited by other crates.
 use Rattle.std.proofs.Common.{ℕ, ◌+◌, ◌≤◌, List, [], ◌∷◌, arith}
 use Rattle.td_lower_blocks.specs.Block.{Block, Done, Then, Stop, Leave, Guard, Scope, Window, Loop, size, Ends}
-use Rattle.td_lower_blocks.specs.Constructs.{Expr, Lit, Slot, Binary, Not, Complement, ShiftLeft, Both, Either, Choice, Range, value, values, Steps, End, Start, Place, Skipped, Number, Listed, Part, Test, Act, Named, AllBytes, AllZeros, ZeroEnd, Copied, Never, Arguments, BySize, ByConstant, steps, Cases, Case, Default, NoDefault, cases, Body, Struct, Casetype, Where, body}
+use Rattle.td_lower_blocks.specs.Constructs.{Expr, Lit, Slot, Binary, Not, Complement, ShiftLeft, Both, Either, Choice, Range, value, values, Steps, End, Start, Place, Skipped, Number, Listed, Part, Computed, Kept, Remaining, Test, Act, Named, AllBytes, AllZeros, ZeroEnd, Copied, Never, Arguments, BySize, ByConstant, steps, Cases, Case, Default, NoDefault, cases, Body, Struct, Casetype, Where, body}
 
 pub ends_some : (b : Block) → Ends b → 1 ≤ size b
 ends_some Done h = absurd h
@@ -37,6 +37,9 @@ ends_steps (Skipped width site k) = ends_steps k
 ends_steps (Number slot order width site k) = ends_steps k
 ends_steps (Listed slot order width set site t k) = ends_steps k
 ends_steps (Part slot unit low width k) = ends_steps k
+ends_steps (Computed t slot e k) = ends_value t e _ (ends_steps k)
+ends_steps (Kept slot cell k) = ends_steps k
+ends_steps (Remaining slot k) = ends_steps k
 ends_steps (Test t site e k) = ends_value t e _ (ends_steps k)
 ends_steps (Act t site a k) = ends_steps k
 ends_steps (Named t routine cells site args k) = ends_values t args _ (ends_steps k)

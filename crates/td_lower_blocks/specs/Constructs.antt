@@ -98,6 +98,9 @@ pub data Steps : Type 0 where
   Number : (slot order width site : ℕ) → Steps → Steps
   Listed : (slot order width set site : ℕ) → (t : ℕ) → Steps → Steps  -- an enum
   Part : (slot unit low width : ℕ) → Steps → Steps  -- a bit field of a unit that was read
+  Computed : (t slot : ℕ) → Expr → Steps → Steps  -- a number without bytes: an expression's value
+  Kept : (slot cell : ℕ) → Steps → Steps  -- what a cell holds
+  Remaining : (slot : ℕ) → Steps → Steps  -- how many bytes are left
   Test : (t site : ℕ) → Expr → Steps → Steps
   Act : (t site : ℕ) → Action → Steps → Steps
   Named : (t routine cells site : ℕ) → List Expr → Steps → Steps
@@ -118,6 +121,9 @@ steps (Skipped width site k) = Then (i.SkipK width site) (steps k)
 steps (Number slot order width site k) = Then (i.Fetch slot order width site) (steps k)
 steps (Listed slot order width set site t k) = listed slot order width set site t (steps k)
 steps (Part slot unit low width k) = Then (i.Bits slot unit low width) (steps k)
+steps (Computed t slot e k) = value t e (Then (i.Op slot 6 t t) (steps k))
+steps (Kept slot cell k) = Then (i.Get slot cell) (steps k)
+steps (Remaining slot k) = Then (i.Left slot) (steps k)
 steps (Test t site e k) = tested t e 4 site (steps k)
 steps (Act t site a k) = Scope (acts t site a Done) (steps k)
 steps (Named t routine cells site args k) = values t args (Then (i.Call t routine cells site) (steps k))

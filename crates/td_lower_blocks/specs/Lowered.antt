@@ -7,7 +7,7 @@ use Rattle.td_num.specs.declared.number.ByteOrder.{ByteOrder}
 use Rattle.td_num.specs.declared.number.ByteOrder.TheVariants.{LittleEndian, BigEndian}
 use Rattle.td_core.specs.declared.expressions.Relation.{Relation}
 use Rattle.td_core.specs.declared.expressions.Relation.TheVariants.{Equal, NotEqual, Less, LessEqual, Greater, GreaterEqual}
-use Rattle.td_lower_blocks.specs.Imports.{Binary as Operator, Add, Subtract, Multiply, Divide, Remainder, BitAnd, BitOr, BitXor, ShiftLeft as ShiftLeftOp, ShiftRight, Element, Number, Listed, Named, Unit as UnitElement, Rest, Zeros, Extent, Once, Filling, OnceFilling, UpToZero, Bits as BitField, CopyOut, Part as PartDef, Field as FieldDef, Case as CaseDef, Body as BodyDef, Struct as StructDef, Casetype as CasetypeDef, TypeDef}
+use Rattle.td_lower_blocks.specs.Imports.{Binary as Operator, Add, Subtract, Multiply, Divide, Remainder, BitAnd, BitOr, BitXor, ShiftLeft as ShiftLeftOp, ShiftRight, Element, Number, Listed, Named, Unit as UnitElement, Rest, Zeros, Extent, Once, Filling, OnceFilling, UpToZero, Given, Source, Expression, FromCell, Left, Bits as BitField, CopyOut, Part as PartDef, Field as FieldDef, Case as CaseDef, Body as BodyDef, Struct as StructDef, Casetype as CasetypeDef, TypeDef}
 use Rattle.td_core.specs.Types.{limit, type_of}
 use Rattle.td_core.specs.Term.{Term, number, name, complement, negation, compute, compare, both, either, choice, range_okay, Deed, done, set, keep, fork, answer, give_up}
 use Rattle.td_expr.specs.Same.{constant_of}
@@ -15,7 +15,7 @@ use Rattle.td_meaning.specs.Naming.{is_needed}
 use Rattle.td_meaning.specs.Meaning.{divides, equals}
 use Rattle.td_ir.specs.declared.instructions.Instr.TheVariants as i
 use Rattle.td_lower_blocks.specs.Block.{Block, Stop}
-use Rattle.td_lower_blocks.specs.Constructs.{Expr, Lit, Slot, Binary, Not, Complement, ShiftLeft, Both, Either, Choice, Range, Action, Finish, Assign, Read, If, Return, Abort, Inner, Nothing, Evenly, Exactly, Uneven, All, Zeroes, OneCall, OneListed, EachCall, EachListed, CopyAll, Steps, End, Start, Place, Skipped, Number as NumberStep, Listed as ListedStep, Part, Test, Act, Named as NamedStep, AllBytes, AllZeros, ZeroEnd, Copied, Never, Arguments, BySize, ByConstant, Cases, Case, Default, NoDefault, Body, Struct, Casetype, Where, body}
+use Rattle.td_lower_blocks.specs.Constructs.{Expr, Lit, Slot, Binary, Not, Complement, ShiftLeft, Both, Either, Choice, Range, Action, Finish, Assign, Read, If, Return, Abort, Inner, Nothing, Evenly, Exactly, Uneven, All, Zeroes, OneCall, OneListed, EachCall, EachListed, CopyAll, Steps, End, Start, Place, Skipped, Number as NumberStep, Listed as ListedStep, Part, Computed, Kept, Remaining, Test, Act, Named as NamedStep, AllBytes, AllZeros, ZeroEnd, Copied, Never, Arguments, BySize, ByConstant, Cases, Case, Default, NoDefault, Body, Struct, Casetype, Where, body}
 
 -- Expressions
 
@@ -105,6 +105,7 @@ when false f k = k
 abbrev pub is_read : Element → Extent → Bool → Bool
 is_read (Number type) Once needed = needed
 is_read (Listed base v) Once needed = true
+is_read (Number type) (Given source) needed = true
 is_read element extent needed = false
 
 -- arguments stand in registers from t + 1 on
@@ -203,11 +204,18 @@ module _ (t : ℕ) where
   up_to_zero_step (Number type) size site k = ZeroEnd (suc t) (bytes_in type.width) site (expr_of size) k
   up_to_zero_step element size site k = Never site
 
+  -- a number without bytes, whether it is needed or not
+  abbrev pub source_step : Source → ℕ → Steps → Steps
+  source_step (Expression span e) slot k = Computed (suc t) slot (expr_of e) k
+  source_step (FromCell cell) slot k = Kept slot cell k
+  source_step Left slot k = Remaining slot k
+
   abbrev pub shape_step : Element → Extent → Bool → ℕ → ℕ → Steps → Steps
   shape_step element Once needed slot site k = once_step element needed slot site k
   shape_step element (Filling size step) needed slot site k = filling_step (constant_of size) step element size site k
   shape_step element (OnceFilling size step) needed slot site k = once_filling_step (constant_of size) step element size site k
   shape_step element (UpToZero size) needed slot site k = up_to_zero_step element size site k
+  shape_step element (Given source) needed slot site k = source_step source slot k
 
   -- bytes that go to a buffer. A constant number of them stands in a window, since a window takes the bytes that it says and a
   -- copy may take none
@@ -222,6 +230,7 @@ module _ (t : ℕ) where
   content_step element Once (Some c) needed slot site k = shape_step element Once needed slot site k
   content_step element (OnceFilling size step) (Some c) needed slot site k = shape_step element (OnceFilling size step) needed slot site k
   content_step element (UpToZero size) (Some c) needed slot site k = shape_step element (UpToZero size) needed slot site k
+  content_step element (Given source) (Some c) needed slot site k = shape_step element (Given source) needed slot site k
 
   abbrev pub fields_steps : (site level : ℕ) → List FieldDef → Steps
   fields_steps site level [] = End

@@ -3,7 +3,7 @@
 use Rattle.std.specs.Prelude.{◌≡◌, ℕ, suc, ◌+◌, ◌<◌, ◌≤◌, true, List, [], ◌∷◌, length, Option, Some, None, slice_get}
 use Rattle.td_core.specs.Term.{Term, number, name, complement, negation, compute, compare, both, either, choice, range_okay, Deed, done, set, keep, fork, answer, give_up}
 use Rattle.td_core.specs.declared.expressions.Scalar.TheVariants.{Truth}
-use Rattle.td_lower_blocks.specs.Imports.{Bits, CopyOut, Part, Field, Case, Body, Struct, Casetype, TypeDef, Module, Element, Number, Listed, Named, Unit as UnitElement, Rest, Zeros, Extent, Once, Filling, OnceFilling, UpToZero, Parts}
+use Rattle.td_lower_blocks.specs.Imports.{Bits, CopyOut, Part, Field, Case, Body, Struct, Casetype, TypeDef, Module, Element, Number, Listed, Named, Unit as UnitElement, Rest, Zeros, Extent, Once, Filling, OnceFilling, UpToZero, Given, Source, Expression, FromCell, Left, Parts}
 use Rattle.td_core.specs.Types.{type_of}
 use Rattle.td_expr.specs.Sound.{Placed}
 use Rattle.td_expr.specs.Same.{constant_of}
@@ -128,6 +128,12 @@ IsNumber UnitElement = ⊥
 IsNumber Rest = ⊥
 IsNumber Zeros = ⊥
 
+-- what a number without bytes is computed from
+abbrev pub SourcePlaced : (R L t : ℕ) → Source → Type 0
+SourcePlaced R L t (Expression span e) = IsExpr R L t e
+SourcePlaced R L t (FromCell cell) = Unit {0}
+SourcePlaced R L t Left = Unit {0}
+
 abbrev pub ShapePlaced : (n : ℕ) (params : ℕ → ℕ) (R L t : ℕ) → Element → Extent → Type 0
 ShapePlaced n params R L t element Once = ElementPlaced n params R L (suc t) element
 ShapePlaced n params R L t element (Filling size step) =
@@ -135,6 +141,7 @@ ShapePlaced n params R L t element (Filling size step) =
 ShapePlaced n params R L t element (OnceFilling size step) =
     (suc (suc t + length (terms_of element)) + 1 < R) × (SizePlaced R L (suc t + length (terms_of element)) size (constant_of size) × (OnePlaced n params R L t element × IsStepOf element step))
 ShapePlaced n params R L t element (UpToZero size) = IsExpr R L (suc t) size × IsNumber element
+ShapePlaced n params R L t element (Given source) = SourcePlaced R L (suc t) source
 
 -- the size of what is copied, in a register, where it isn't constant; this one is then free
 abbrev pub CopyPlaced : (R L t : ℕ) → Extent → Option CopyOut → Type 0
@@ -143,6 +150,7 @@ CopyPlaced R L t (Filling size step) (Some c) = IsExpr R L (suc t) size
 CopyPlaced R L t Once (Some c) = Unit {0}
 CopyPlaced R L t (OnceFilling size step) (Some c) = Unit {0}
 CopyPlaced R L t (UpToZero size) (Some c) = Unit {0}
+CopyPlaced R L t (Given source) (Some c) = Unit {0}
 
 abbrev pub FieldsPlaced : (n : ℕ) (params : ℕ → ℕ) (R D L t : ℕ) → List Field → Type 0
 FieldsPlaced n params R D L t [] = Unit {0}

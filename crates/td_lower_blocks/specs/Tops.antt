@@ -2,7 +2,7 @@
 -- bit fields, and then one more than the greatest register that is used.
 use Rattle.std.specs.Prelude.{ℕ, suc, ◌+◌, max, List, [], ◌∷◌, length, Option, Some, None}
 use Rattle.td_core.specs.Term.{Term, Deed, done, set, keep, fork, answer, give_up}
-use Rattle.td_lower_blocks.specs.Imports.{Element, Number, Listed, Named, Unit as UnitElement, Rest, Zeros, Extent, Once, Filling, OnceFilling, UpToZero, Bits, CopyOut, Part, Field, Case, Body, Struct, Casetype, TypeDef}
+use Rattle.td_lower_blocks.specs.Imports.{Element, Number, Listed, Named, Unit as UnitElement, Rest, Zeros, Extent, Once, Filling, OnceFilling, UpToZero, Given, Source, Expression, FromCell, Left, Bits, CopyOut, Part, Field, Case, Body, Struct, Casetype, TypeDef}
 use Rattle.td_lower_blocks.specs.Constructs.{Expr, Lit, Slot, Binary, Not, Complement, ShiftLeft, Both, Either, Choice, Range}
 use Rattle.td_lower_blocks.specs.Lowered.{expr_of, terms_of}
 
@@ -103,9 +103,22 @@ abbrev pub copy_cells : Option CopyOut → ℕ
 copy_cells None = 0
 copy_cells (Some c) = c.buffer + 1
 
+-- of the cell that gives a number without bytes
+abbrev pub source_cells : Source → ℕ
+source_cells (Expression span e) = 0
+source_cells (FromCell cell) = cell + 1
+source_cells Left = 0
+
+abbrev pub extent_cells : Extent → ℕ
+extent_cells Once = 0
+extent_cells (Filling size step) = 0
+extent_cells (OnceFilling size step) = 0
+extent_cells (UpToZero size) = 0
+extent_cells (Given source) = source_cells source
+
 abbrev pub fields_cells : List Field → ℕ
 fields_cells [] = 0
-fields_cells (f ∷ fs) = max (copy_cells f.copy) (max (parts_cells f.parts) (fields_cells fs))
+fields_cells (f ∷ fs) = max (extent_cells f.extent) (max (copy_cells f.copy) (max (parts_cells f.parts) (fields_cells fs)))
 
 abbrev pub default_cells : Option (List Field) → ℕ
 default_cells None = 0
@@ -155,11 +168,18 @@ abbrev pub sized_top : ℕ → Element → Term → ℕ
 sized_top t element size =
     max (terms_top (suc t) (terms_of element)) (max (suc t + length (terms_of element) + 3) (term_top (suc t + length (terms_of element)) size))
 
+-- a number without bytes is computed in register t
+abbrev pub source_top : ℕ → Source → ℕ
+source_top t (Expression span e) = term_top t e
+source_top t (FromCell cell) = t + 1
+source_top t Left = t + 1
+
 abbrev pub shape_top : ℕ → Element → Extent → ℕ
 shape_top t element Once = max (t + 2) (terms_top (suc t) (terms_of element))
 shape_top t element (Filling size step) = sized_top t element size
 shape_top t element (OnceFilling size step) = sized_top t element size
 shape_top t element (UpToZero size) = term_top (suc t) size
+shape_top t element (Given source) = source_top (suc t) source
 
 -- of what is copied its size too
 abbrev pub content_top : ℕ → Element → Extent → Option CopyOut → ℕ
@@ -168,6 +188,7 @@ content_top t element (Filling size step) (Some c) = max (shape_top t element (F
 content_top t element Once (Some c) = shape_top t element Once
 content_top t element (OnceFilling size step) (Some c) = shape_top t element (OnceFilling size step)
 content_top t element (UpToZero size) (Some c) = shape_top t element (UpToZero size)
+content_top t element (Given source) (Some c) = shape_top t element (Given source)
 
 abbrev pub fields_top : (level t : ℕ) → List Field → ℕ
 fields_top level t [] = t + 1

@@ -1,12 +1,12 @@
 //! Writes the code of arrays and of single elements.
 #![tactic(auto, using(crate::proofs::Writing::laid_then, crate::proofs::Writing::laid_stop, crate::proofs::Values::some_top))]
 
-ghost use Rattle.std.specs.Prelude.{◌≡◌, ◌≤◌, ◌<◌, ◌^◌, ◌+◌, suc, cond, OnOk, IfOk, length};
+ghost use Rattle.std.specs.Prelude.{◌≡◌, ◌≤◌, ◌<◌, ◌^◌, ◌+◌, suc, cond, max, OnOk, IfOk, length};
 ghost use Rattle.td_meaning.specs.Meaning.{divides, equals};
 ghost use Rattle.td_lower_blocks.specs.Constructs.{Uneven, BySize, Arguments};
-ghost use Rattle.td_lower_blocks.specs.Lowered.{expr_of, terms_of, arguments, constant_step, evenly, exactly, each_inner, one_inner, filling_step, once_filling_step, up_to_zero_step, shape_step, content_step};
+ghost use Rattle.td_lower_blocks.specs.Lowered.{expr_of, terms_of, arguments, constant_step, evenly, exactly, each_inner, one_inner, filling_step, once_filling_step, up_to_zero_step, source_step, shape_step, content_step};
 ghost use Rattle.td_expr.specs.Same.{constant_of};
-ghost use Rattle.td_lower_blocks.specs.Tops.{term_top, terms_top, sized_top, shape_top, content_top, copy_cells};
+ghost use Rattle.td_lower_blocks.specs.Tops.{term_top, terms_top, sized_top, source_top, shape_top, content_top, source_cells, extent_cells, copy_cells};
 ghost use Rattle.td_lower_emit.specs.Emission.{Writes, WritesSteps, GoesOn};
 
 use crate::copies::write_copied;
@@ -18,9 +18,9 @@ use crate::fields::{terms_of, write_once, write_values};
 use crate::writer::Writer;
 use std::alloc::AllocError;
 use td_core::expressions::CoreExpr;
-use td_core::module::{Element, Extent, Field};
+use td_core::module::{Element, Extent, Field, Source};
 use td_expr::constant::constant_of;
-use td_ir::constants::NOT_ENOUGH;
+use td_ir::constants::{NOT_ENOUGH, OR};
 use td_ir::instructions::Instr;
 use td_meaning::arrays::{divides, equals};
 use td_num::number::byte_count;
@@ -221,6 +221,37 @@ fn write_up_to_zero(
     }
 }
 
+// Writes the code of a number without bytes, which stands in register `slot` then; `t` is the unit's.
+fn write_source(code: &mut Writer, t: u16, slot: u16, source: &Source) -> Result<(), AllocError>
+    requires registers { source_top (suc t) source.now ≤ 2 ^ 16 }
+    requires cells { source_cells source.now ≤ 2 ^ 16 }
+    ensures { OnOk result (WritesSteps code.old code.new (source_step t source.now slot)) }
+{
+    match source {
+        Source::Expression { value, .. } => {
+            write_value(code, t + 1, value)?;
+            code.write(Instr::Op {
+                into: slot,
+                operator: OR,
+                left: t + 1,
+                right: t + 1,
+            })?;
+            Ok(())
+        }
+        Source::Cell(cell) => {
+            code.write(Instr::Get {
+                into: slot,
+                cell: *cell as u16,
+            })?;
+            Ok(())
+        }
+        Source::Left => {
+            code.write(Instr::Left { into: slot })?;
+            Ok(())
+        }
+    }
+}
+
 /// Writes the code of what stands in a field, with its number in register `slot` where it is read; `t` is the unit's, and
 /// those above it are used. False: nothing behind it is reached. `AllocError`: there was no memory for it.
 pub(crate) fn write_shape(
@@ -232,7 +263,8 @@ pub(crate) fn write_shape(
     element: &Element,
     extent: &Extent,
 ) -> Result<bool, AllocError>
-    requires { shape_top t element.now extent.now ≤ 2 ^ 16 }
+    requires registers { shape_top t element.now extent.now ≤ 2 ^ 16 }
+    requires cells { extent_cells extent.now ≤ 2 ^ 16 }
     ensures { IfOk result (λ on. GoesOn on code.old code.new (shape_step t element.now extent.now needed slot site)) }
 {
     match extent {
@@ -245,6 +277,10 @@ pub(crate) fn write_shape(
             write_once_filling(code, t, site, size, *step, element)
         }
         Extent::UpToZero { size } => write_up_to_zero(code, t, site, size, element),
+        Extent::Given(source) => {
+            write_source(code, t, slot, source)?;
+            Ok(true)
+        }
     }
 }
 
@@ -258,7 +294,7 @@ pub(crate) fn write_content(
     field: &Field,
 ) -> Result<bool, AllocError>
     requires registers { content_top t field.now.element field.now.extent field.now.copy ≤ 2 ^ 16 }
-    requires cells { copy_cells field.now.copy ≤ 2 ^ 16 }
+    requires cells { max (extent_cells field.now.extent) (copy_cells field.now.copy) ≤ 2 ^ 16 }
     ensures { IfOk result (λ on. GoesOn on code.old code.new
         (content_step t field.now.element field.now.extent field.now.copy needed slot site)) }
 {
@@ -277,5 +313,9 @@ pub(crate) fn write_content(
             write_once_filling(code, t, site, size, *step, element)
         }
         Extent::UpToZero { size } => write_up_to_zero(code, t, site, size, element),
+        Extent::Given(source) => {
+            write_source(code, t, slot, source)?;
+            Ok(true)
+        }
     }
 }

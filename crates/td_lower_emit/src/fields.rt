@@ -253,6 +253,7 @@ pub(crate) fn is_read(element: &Element, extent: &Extent, needed: bool) -> bool
             Element::Listed { .. } => true,
             Element::Named { .. } | Element::Unit | Element::Rest | Element::Zeros => false,
         },
+        Extent::Given(_) => matches!(element, Element::Number(_)),
         Extent::Filling { .. } | Extent::OnceFilling { .. } | Extent::UpToZero { .. } => false,
     }
 }

@@ -4,12 +4,12 @@
 ghost use Rattle.std.specs.Prelude.{◌≡◌, ◌<◌, ◌+◌, ◌*◌, ◌^◌, suc, length};
 ghost use Rattle.td_core.specs.Term.{measure};
 ghost use Rattle.td_lower_blocks.specs.Lowered.{terms_of};
-ghost use Rattle.td_core.specs.Weights.{terms_nodes, option_nodes, deed_nodes, action_nodes, part_nodes, element_nodes, extent_nodes, total, fields_nodes, default_nodes, cases_nodes, head_nodes, body_nodes};
-ghost use Rattle.td_lower_blocks.specs.Tops.{term_top, terms_top, test_top, deed_top, action_top, parts_top, sized_top, shape_top, content_top, fields_top, default_top, cases_top, body_top, definition_top};
+ghost use Rattle.td_core.specs.Weights.{terms_nodes, option_nodes, deed_nodes, action_nodes, part_nodes, element_nodes, extent_nodes, source_nodes, total, fields_nodes, default_nodes, cases_nodes, head_nodes, body_nodes};
+ghost use Rattle.td_lower_blocks.specs.Tops.{term_top, terms_top, test_top, deed_top, action_top, parts_top, sized_top, source_top, shape_top, content_top, fields_top, default_top, cases_top, body_top, definition_top};
 
 use td_core::actions::{Action, ActionStep};
 use td_core::expressions::{CoreExpr, Node, Relation};
-use td_core::module::{Body, Case, CopyOut, Element, Extent, Field, Part, TypeDef};
+use td_core::module::{Body, Case, CopyOut, Element, Extent, Field, Part, Source, TypeDef};
 use td_num::items::Items;
 
 // Of an expression in register `t`.
@@ -128,6 +128,17 @@ fn sized_top(t: u64, element: &Element, size: &CoreExpr) -> u64
     arguments.max((u + 3).max(value_top(u, size)))
 }
 
+// Of a number without bytes.
+fn source_top(t: u64, source: &Source) -> u64
+    requires { t + source_nodes source.now < 2 ^ 60 }
+    ensures { result ≡ source_top t source.now }
+{
+    match source {
+        Source::Expression { value, .. } => value_top(t, value),
+        Source::Cell(_) | Source::Left => t + 1,
+    }
+}
+
 // Of what stands in a field.
 fn shape_top(t: u64, element: &Element, extent: &Extent) -> u64
     requires { t + (element_nodes element.now + extent_nodes extent.now) + 4 < 2 ^ 60 }
@@ -138,6 +149,7 @@ fn shape_top(t: u64, element: &Element, extent: &Extent) -> u64
         Extent::Filling { size, .. } => sized_top(t, element, size),
         Extent::OnceFilling { size, .. } => sized_top(t, element, size),
         Extent::UpToZero { size } => value_top(t + 1, size),
+        Extent::Given(source) => source_top(t + 1, source),
     }
 }
 

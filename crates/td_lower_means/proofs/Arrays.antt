@@ -1,8 +1,9 @@
 -- The code of what stands in a field.
-use Rattle.std.proofs.Common.{◌≡◌, ℕ, zero, suc, ◌+◌, ◌-◌, ◌*◌, ◌/◌, ◌^◌, ◌<◌, ◌≤◌, Bool, true, false, cond, List, [], length, map, refl, sym, ap, ◌∙◌, arith, nat_eq, nat_le, nat_lt, slice_index, slice_set, Option, Some, None, min}
+use Rattle.std.proofs.Common.{◌≡◌, ℕ, zero, suc, ◌+◌, ◌-◌, ◌*◌, ◌/◌, ◌^◌, ◌<◌, ◌≤◌, Bool, true, false, cond, List, [], length, map, refl, sym, ap, ◌∙◌, arith, nat_eq, nat_le, nat_lt, slice_index, slice_set, Option, Some, None, min, bit_or}
 use Rattle.std.proofs.lemmas.List.{append-nil, get_or-set_same, get_or-set_other}
 use Rattle.std.proofs.Math.ListN.{length-set}
-use Rattle.td_lower_means.specs.Imports.{Width, ByteOrder, LittleEndian, BigEndian, NumberType, NameId, Element, Number, Listed, Named, Unit as UnitElement, Rest, Zeros, CopyOut, Extent, Once, Filling, OnceFilling, UpToZero, NotEnough, ListSize, Parts}
+use Rattle.td_lower_means.specs.Imports.{Width, ByteOrder, LittleEndian, BigEndian, NumberType, NameId, Element, Number, Listed, Named, Unit as UnitElement, Rest, Zeros, CopyOut, Extent, Once, Filling, OnceFilling, UpToZero, Given, Source, Expression, FromCell, Left, NotEnough, ListSize, Parts}
+use Rattle.std.specs.Int.Bits.{or_self}
 use Rattle.td_expr.specs.Same.{constant_of}
 use Rattle.td_expr.proofs.Folding.{constant_is}
 use Rattle.td_expr.specs.Value.{natural}
@@ -12,19 +13,19 @@ use Rattle.td_core.specs.Term.{Term}
 use Rattle.td_core.specs.Outcome.{Behavior, Accepted, after_reading, and_then, within, accepted}
 use Rattle.td_expr.specs.Sound.{Sound}
 use Rattle.td_expr.specs.Naming.{names}
-use Rattle.td_meaning.specs.Naming.{element_names, extent_names}
+use Rattle.td_meaning.specs.Naming.{element_names, extent_names, source_names}
 use Rattle.td_meaning.specs.Doing.{natural_of}
-use Rattle.td_meaning.specs.Meaning.{Sense, demanded, values_of, element_meaning, shape_meaning, with_copy, copied_meaning, content_meaning, number_places, filled, filled_once, numbers_at, run_of, up_to_zero, zero_end}
-use Rattle.td_meaning.specs.Throughout.{Through, OnShape, OnContent, spare}
+use Rattle.td_meaning.specs.Meaning.{Sense, demanded, values_of, given_value, element_meaning, shape_meaning, with_copy, copied_meaning, content_meaning, number_places, filled, filled_once, numbers_at, run_of, up_to_zero, zero_end}
+use Rattle.td_meaning.specs.Throughout.{Through, OnSource, OnShape, OnContent, spare}
 use Rattle.td_meaning.proofs.Meaning64.{has_room}
 use Rattle.td_ir.specs.declared.instructions.Instr.TheVariants as i
 use Rattle.td_lower_blocks.specs.Block.{Block, Then}
 use Rattle.td_lower_blocks.specs.Constructs.{Steps, steps, value, inner, Inner, CopyAll, ByConstant, Never}
-use Rattle.td_lower_blocks.specs.Placed.{IsExpr, ShapePlaced, CopyPlaced}
+use Rattle.td_lower_blocks.specs.Placed.{IsExpr, SourcePlaced, ShapePlaced, CopyPlaced}
 use Rattle.td_ir.specs.State.{State, registers_from}
 use Rattle.td_lower_means.proofs.BlockRun.{Passage, touching, onwards, if_so, Calling, ran, passage_of, onto}
 use Rattle.td_ir.specs.Flow.{Effect, Goes, Fails, copied, zeroterm_flow}
-use Rattle.td_lower_blocks.specs.Lowered.{expr_of, shape_step, copied_step, content_step, constant_step}
+use Rattle.td_lower_blocks.specs.Lowered.{expr_of, source_step, shape_step, copied_step, content_step, constant_step}
 use Rattle.td_lower_blocks.specs.Tabled.{Mapped, Buffered}
 use Rattle.td_lower_means.proofs.Valued.{nonzero}
 use Rattle.td_lower_means.proofs.Looking.{zeroterm_look}
@@ -54,6 +55,14 @@ no_places needed (Named d args own) size step p = refl
 no_places needed UnitElement size step p = refl
 no_places needed Rest size step p = refl
 no_places needed Zeros size step p = refl
+
+given_places : (needed : Bool) (element : Element) (source : Source) (p : ℕ) → number_places needed element (Given source) p ≡ []
+given_places needed (Number type) source p = refl
+given_places needed (Listed base v) source p = refl
+given_places needed (Named d args own) source p = refl
+given_places needed UnitElement source p = refl
+given_places needed Rest source p = refl
+given_places needed Zeros source p = refl
 
 -- a number is 0 in one order of its bytes where it is in the other
 zero_step : (n x y : ℕ) → cond (nat_eq (256 * n + x) 0) (nat_eq y 0) false ≡ cond (nat_eq n 0) (nat_eq (256 * y + x) 0) false
@@ -98,11 +107,13 @@ module _ (T : Parts) (self : ℕ) (message places : List ℕ) (calls : Calling) 
       (called : (d first m : ℕ) (s : State) (args : List ℕ) → s.end < 2 ^ 32 → d < n → params d ≡ length args → registers_from s.regs first (length args) ≡ args
       → throughs d args (map (slice_index places) (cells_by T self d m)) s.cells message s.pos s.end
       → calls first d m s ≡ passage_of (senses d args (map (slice_index places) (cells_by T self d m)) s.cells message s.pos s.end)) where
-    abbrev pub InShape : (element : Element) (extent : Extent) (needed : Bool) (slot p : ℕ) → List ℕ → Type 0
-    InShape element Once needed slot p z = InSlot T self message places calls D t dt sets senses throughs ty n params setted called element needed slot p z
-    InShape element (Filling size step) needed slot p z = Unit {0}
-    InShape element (OnceFilling size step) needed slot p z = Unit {0}
-    InShape element (UpToZero size) needed slot p z = Unit {0}
+    -- a number without bytes stands in its slot, too
+    abbrev pub InShape : (env : List ℕ) (end : ℕ) (c : List ℕ) (element : Element) (extent : Extent) (needed : Bool) (slot p : ℕ) → List ℕ → Type 0
+    InShape env end c element Once needed slot p z = InSlot T self message places calls D t dt sets senses throughs ty n params setted called element needed slot p z
+    InShape env end c element (Filling size step) needed slot p z = Unit {0}
+    InShape env end c element (OnceFilling size step) needed slot p z = Unit {0}
+    InShape env end c element (UpToZero size) needed slot p z = Unit {0}
+    InShape env end c element (Given source) needed slot p z = slice_index z slot ≡ given_value source env places end p c
 
     -- elements up to a zero, from the width, what comes first, and the bound
     abbrev zero_ended : (w : Width) (v : ℕ) (site : ℕ) (s : State) (first : Option ℕ) → (State → Passage) → Passage
@@ -141,10 +152,30 @@ module _ (T : Parts) (self : ℕ) (message places : List ℕ) (calls : Calling) 
         ∙ by first refl
         ∙ sym (onto_after R (within (place_of_site T site p) (zero_end first w bound room p c)) next)
 
+    -- a number without bytes, whatever the element
+    given_runs : (source : Source) (slot L : ℕ) (env r c : List ℕ) (p end o : ℕ) (k : Steps) (leave go : State → Passage) (after : Passage)
+        → length env ≡ L → L ≤ D → L ≤ slot → slot ≤ t → t < length r → SourcePlaced (length r) L (suc t) source → Follows (λ j. source_names j source) env r → OnSource Sound source env
+        → ((z : List ℕ) → length z ≡ length r → ((j : ℕ) → j < L → slice_index z j ≡ slice_index r j) → slice_index z slot ≡ given_value source env places end p c → goes (steps k) leave go (at z c p p end o) ≡ after)
+        → goes (steps (source_step t source slot k)) leave go (at r c p p end o) ≡ after
+    given_runs (Expression span e) slot L env r c p end o k leave go after le ld ls st room x g on h =
+        let put = put_value T self message places calls e env L (suc t) (at r c p p end o) le (omega (arith, ld, dt)) x on g in
+        let v = slice_index put.regs (suc t) in
+        let w = bit_or v v in
+        put.by (Then (i.Op slot 6 (suc t) (suc t)) (steps k)) leave go
+        ∙ h (slice_set put.regs slot w) (length-set put.regs slot w ∙ put.count)
+        (λ j l. get_or-set_other put.regs slot j w 0 (λ z. absurd (omega (arith, l, z, ls))) ∙ put.low j (omega (arith, l, ld, dt)))
+        (get_or-set_same put.regs slot w 0 (omega (arith, st, room, put.count)) ∙ or_self v ∙ put.at)
+    given_runs (FromCell cell) slot L env r c p end o k leave go after le ld ls st room x g on h =
+        let v = slice_index c (slice_index places cell) in
+        h (slice_set r slot v) (length-set r slot v) (λ j l. get_or-set_other r slot j v 0 (λ z. absurd (omega (arith, l, z, ls)))) (get_or-set_same r slot v 0 (omega (arith, st, room)))
+    given_runs Left slot L env r c p end o k leave go after le ld ls st room x g on h =
+        let v = end - p in
+        h (slice_set r slot v) (length-set r slot v) (λ j l. get_or-set_other r slot j v 0 (λ z. absurd (omega (arith, l, z, ls)))) (get_or-set_same r slot v 0 (omega (arith, st, room)))
+
     pub shape_runs : (element : Element) (extent : Extent) (needed : Bool) (slot site L : ℕ) (env r c : List ℕ) (p end o : ℕ) (k : Steps) (leave go : State → Passage) (next : ℕ → List ℕ → Passage)
         → end < 2 ^ 32 → Mapped T self site element → length env ≡ L → L ≤ D → L ≤ slot → slot ≤ t → t < length r → ShapePlaced n params (length r) L t element extent → Follows (λ j. element_names j element) env r → Follows (λ j. extent_names j extent) env r
         → OnShape Sound sets senses throughs element extent env places message end p c
-        → ((q : ℕ) (z d : List ℕ) (u : ℕ) → length z ≡ length r → ((j : ℕ) → j < L → slice_index z j ≡ slice_index r j) → InShape element extent needed slot p z
+        → ((q : ℕ) (z d : List ℕ) (u : ℕ) → length z ≡ length r → ((j : ℕ) → j < L → slice_index z j ≡ slice_index r j) → InShape env end c element extent needed slot p z
         → (shape_meaning sets senses element extent env places message end p c).ending ≡ Accepted q d → goes (steps k) leave go (at z d q p end u) ≡ next q d)
         → goes (steps (shape_step t element extent needed slot site k)) leave go (at r c p p end o)
         ≡ onto (within (place_of_site T site p) (shape_meaning sets senses element extent env places message end p c)) (λ q d. touching (number_places needed element extent p) (next q d))
@@ -166,6 +197,9 @@ module _ (T : Parts) (self : ℕ) (message places : List ℕ) (calls : Calling) 
     shape_runs UnitElement (UpToZero size) needed slot site L env r c p end o k leave go next small mp le ld ls st room x f g on h = absurd x.1
     shape_runs Rest (UpToZero size) needed slot site L env r c p end o k leave go next small mp le ld ls st room x f g on h = absurd x.1
     shape_runs Zeros (UpToZero size) needed slot site L env r c p end o k leave go next small mp le ld ls st room x f g on h = absurd x.1
+    shape_runs element (Given source) needed slot site L env r c p end o k leave go next small mp le ld ls st room x f g on h =
+        given_runs source slot L env r c p end o k leave go (next p c) le ld ls st room x g on (λ z count low here. h p z c o count low here refl)
+        ∙ ap (λ l. touching l (next p c)) (sym (given_places needed element source p))
 
     -- bytes that are copied
     copy_run : (size : Term) (w : CopyOut) (site L : ℕ) (env r c : List ℕ) (p end u : ℕ) (k : Steps) (leave go : State → Passage) (next : ℕ → List ℕ → Passage)
@@ -253,7 +287,7 @@ module _ (T : Parts) (self : ℕ) (message places : List ℕ) (calls : Calling) 
         → end < 2 ^ 32 → Mapped T self site element → Buffered T self copy → length env ≡ L → L ≤ D → L ≤ slot → slot ≤ t → t < length r → ShapePlaced n params (length r) L t element extent → CopyPlaced (length r) L t extent copy
         → Follows (λ j. element_names j element) env r → Follows (λ j. extent_names j extent) env r
         → OnContent Sound sets senses throughs element extent copy env places message end p c
-        → ((q : ℕ) (z d : List ℕ) (u : ℕ) → length z ≡ length r → ((j : ℕ) → j < L → slice_index z j ≡ slice_index r j) → InShape element extent needed slot p z
+        → ((q : ℕ) (z d : List ℕ) (u : ℕ) → length z ≡ length r → ((j : ℕ) → j < L → slice_index z j ≡ slice_index r j) → InShape env end c element extent needed slot p z
         → (content_meaning sets senses element extent copy env places message end p c).ending ≡ Accepted q d → goes (steps k) leave go (at z d q p end u) ≡ next q d)
         → goes (steps (content_step t element extent copy needed slot site k)) leave go (at r c p p end o)
         ≡ onto (within (place_of_site T site p) (content_meaning sets senses element extent copy env places message end p c)) (λ q d. touching (number_places needed element extent p) (next q d))
@@ -269,3 +303,5 @@ module _ (T : Parts) (self : ℕ) (message places : List ℕ) (calls : Calling) 
         shape_runs element (OnceFilling size step) needed slot site L env r c p end o k leave go next small mp le ld ls st room x f g on h
     content_runs element (UpToZero size) (Some w) needed slot site L env r c p end o k leave go next small mp bf le ld ls st room x y f g on h =
         shape_runs element (UpToZero size) needed slot site L env r c p end o k leave go next small mp le ld ls st room x f g on h
+    content_runs element (Given source) (Some w) needed slot site L env r c p end o k leave go next small mp bf le ld ls st room x y f g on h =
+        shape_runs element (Given source) needed slot site L env r c p end o k leave go next small mp le ld ls st room x f g on h

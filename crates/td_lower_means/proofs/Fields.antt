@@ -3,7 +3,7 @@ use Rattle.std.proofs.Common.{◌≡◌, ℕ, ◌+◌, ◌^◌, ◌<◌, ◌≤�
 use Rattle.std.proofs.lemmas.Bool.{false≢true}
 use Rattle.td_num.specs.Lists.{is_among}
 use Rattle.td_core.specs.Outcome.{Behavior, and_then, within, after_reading}
-use Rattle.td_lower_means.specs.Imports.{NameId, Bits, Part, Field, Element, Number, Listed, Named, Unit as UnitElement, Rest, Zeros, Extent, Once, Filling, OnceFilling, UpToZero, Parts}
+use Rattle.td_lower_means.specs.Imports.{NameId, Bits, Part, Field, Element, Number, Listed, Named, Unit as UnitElement, Rest, Zeros, Extent, Once, Filling, OnceFilling, UpToZero, Given, Parts}
 use Rattle.td_expr.specs.Sound.{Sound}
 use Rattle.td_meaning.specs.Naming.{element_names, extent_names, parts_name, field_names, fields_name, is_needed}
 use Rattle.td_meaning.specs.Meaning.{Sense, values_of, content_meaning, field_number, number_places, field_place, first_name, parts_meaning, bits_of, extended, fields_meaning}
@@ -53,22 +53,25 @@ module _ (T : Parts) (self : ℕ) (message places : List ℕ) (calls : Calling) 
       (called : (d first m : ℕ) (s : State) (args : List ℕ) → s.end < 2 ^ 32 → d < n → params d ≡ length args → registers_from s.regs first (length args) ≡ args
       → throughs d args (map (slice_index places) (cells_by T self d m)) s.cells message s.pos s.end
       → calls first d m s ≡ passage_of (senses d args (map (slice_index places) (cells_by T self d m)) s.cells message s.pos s.end)) where
-    source_of : (element : Element) (extent : Extent) (needed : Bool) (L p : ℕ) (ps : List Part) (z : List ℕ) → InShape T self message places calls D t dt sets senses throughs ty n params setted called element extent needed (number_slot L t ps) p z
-        → Source (is_read element extent needed) L t (field_number element extent message p) ps z
-    source_of element extent needed L p [] z h = tt
-    source_of (Number type) Once true L p (x ∷ xs) z h = λ e. h
-    source_of (Number type) Once false L p (x ∷ xs) z h = λ e. absurd (false≢true e)
-    source_of (Number type) (Filling s step) needed L p (x ∷ xs) z h = λ e. absurd (false≢true e)
-    source_of (Number type) (OnceFilling s step) needed L p (x ∷ xs) z h = λ e. absurd (false≢true e)
-    source_of (Number type) (UpToZero s) needed L p (x ∷ xs) z h = λ e. absurd (false≢true e)
-    source_of (Listed base v) Once needed L p (x ∷ xs) z h = λ e. h
-    source_of (Listed base v) (Filling s step) needed L p (x ∷ xs) z h = λ e. absurd (false≢true e)
-    source_of (Listed base v) (OnceFilling s step) needed L p (x ∷ xs) z h = λ e. absurd (false≢true e)
-    source_of (Listed base v) (UpToZero s) needed L p (x ∷ xs) z h = λ e. absurd (false≢true e)
-    source_of (Named d args own) extent needed L p (x ∷ xs) z h = λ e. absurd (false≢true e)
-    source_of UnitElement extent needed L p (x ∷ xs) z h = λ e. absurd (false≢true e)
-    source_of Rest extent needed L p (x ∷ xs) z h = λ e. absurd (false≢true e)
-    source_of Zeros extent needed L p (x ∷ xs) z h = λ e. absurd (false≢true e)
+    source_of : (env : List ℕ) (end : ℕ) (c : List ℕ) (element : Element) (extent : Extent) (needed : Bool) (L p : ℕ) (ps : List Part) (z : List ℕ)
+        → InShape T self message places calls D t dt sets senses throughs ty n params setted called env end c element extent needed (number_slot L t ps) p z
+        → Source (is_read element extent needed) L t (field_number element extent env places message end p c) ps z
+    source_of env end c element extent needed L p [] z h = tt
+    source_of env end c (Number type) Once true L p (x ∷ xs) z h = λ e. h
+    source_of env end c (Number type) Once false L p (x ∷ xs) z h = λ e. absurd (false≢true e)
+    source_of env end c (Number type) (Filling s step) needed L p (x ∷ xs) z h = λ e. absurd (false≢true e)
+    source_of env end c (Number type) (OnceFilling s step) needed L p (x ∷ xs) z h = λ e. absurd (false≢true e)
+    source_of env end c (Number type) (UpToZero s) needed L p (x ∷ xs) z h = λ e. absurd (false≢true e)
+    source_of env end c (Number type) (Given s) needed L p (x ∷ xs) z h = λ e. h
+    source_of env end c (Listed base v) Once needed L p (x ∷ xs) z h = λ e. h
+    source_of env end c (Listed base v) (Filling s step) needed L p (x ∷ xs) z h = λ e. absurd (false≢true e)
+    source_of env end c (Listed base v) (OnceFilling s step) needed L p (x ∷ xs) z h = λ e. absurd (false≢true e)
+    source_of env end c (Listed base v) (UpToZero s) needed L p (x ∷ xs) z h = λ e. absurd (false≢true e)
+    source_of env end c (Listed base v) (Given s) needed L p (x ∷ xs) z h = λ e. absurd (false≢true e)
+    source_of env end c (Named d args own) extent needed L p (x ∷ xs) z h = λ e. absurd (false≢true e)
+    source_of env end c UnitElement extent needed L p (x ∷ xs) z h = λ e. absurd (false≢true e)
+    source_of env end c Rest extent needed L p (x ∷ xs) z h = λ e. absurd (false≢true e)
+    source_of env end c Zeros extent needed L p (x ∷ xs) z h = λ e. absurd (false≢true e)
 
     pub fields_run : (end : ℕ) → (fs : List Field) (site L : ℕ) (env r c : List ℕ) (p start o : ℕ) (leave go : State → Passage)
         → end < 2 ^ 32 → FieldsSited T self ty site fs → length env ≡ L → t < length r → FieldsPlaced n params (length r) D L t fs → Follows (λ j. fields_name j fs) env r → OnFields Sound sets senses throughs ty fs env places message end p c
@@ -79,7 +82,7 @@ module _ (T : Parts) (self : ℕ) (message places : List ℕ) (calls : Calling) 
         let needed = is_needed L w.parts later in
         let slot = number_slot L t w.parts in
         let read = is_read w.element w.extent needed in
-        let v = field_number w.element w.extent message p in
+        let v = field_number w.element w.extent env places message end p c in
         let rest = fields_steps t (length w.parts + site) (length w.parts + L) later in
         let K = parts_steps t read site L w.parts rest in
         let shape = content_meaning sets senses w.element w.extent w.copy env places message end p c in
@@ -101,7 +104,7 @@ module _ (T : Parts) (self : ℕ) (message places : List ℕ) (calls : Calling) 
         (λ q z d u count low inside e.
         let told = at_ending shape.ending q d (λ q d. OnParts Sound p v w.parts env places q d × OnEnding (M q d).ending (OnFields Sound sets senses throughs ty later (extended env v w.parts) places message end)) on.1 e in
         parts_run T self message places calls D t dt ty later read v w.parts site L env (at z d q p end u) rest leave go (λ q d. passage_of (F q d))
-        ss.1.1.0 le (subst (λ m. PartsPlaced m D L t w.parts) (sym count) x.1.1.0) x.1.1.1.0 (source_of w.element w.extent needed L p w.parts z inside) x.1.1.1.1.0
+        ss.1.1.0 le (subst (λ m. PartsPlaced m D L t w.parts) (sym count) x.1.1.0) x.1.1.1.0 (source_of env end c w.element w.extent needed L p w.parts z inside) x.1.1.1.1.0
         (follows_kept (λ j. parts_name j w.parts || fields_name j later) env r z (λ j l. low j (omega (arith, l, le)))
         (follows_some (λ j. parts_name j w.parts || fields_name j later) (λ j. fields_name j (w ∷ later)) env r in_parts f))
         told.0

@@ -3,7 +3,7 @@ use Rattle.std.proofs.Common.{ℕ, ◌+◌, Bool, true, false, List, [], ◌∷�
 use Rattle.td_lower_means.specs.Imports.{TypeDef}
 use Rattle.std.specs.Prelude.{Option, Some, None}
 use Rattle.td_lower_blocks.specs.Block.{Block, Done, Leave, Ends}
-use Rattle.td_lower_blocks.specs.Constructs.{Expr, Lit, Slot, Binary, Not, Complement, ShiftLeft, Both, Either, Choice, Range, value, values, tested, acts, Action, Finish, Assign, Read, If, Return, Abort, Steps, End, Start, Place, Skipped, Number, Listed, Part, Test, Act, Named, AllBytes, AllZeros, ZeroEnd, Copied, Never, Arguments, BySize, ByConstant, Inner, Nothing, Evenly, Exactly, Uneven, All, Zeroes, OneCall, OneListed, EachCall, EachListed, CopyAll, inner, steps, Cases, Case, Default, NoDefault, cases, Body, Struct, Casetype, Where, body}
+use Rattle.td_lower_blocks.specs.Constructs.{Expr, Lit, Slot, Binary, Not, Complement, ShiftLeft, Both, Either, Choice, Range, value, values, tested, acts, Action, Finish, Assign, Read, If, Return, Abort, Steps, End, Start, Place, Skipped, Number, Listed, Part, Computed, Kept, Remaining, Test, Act, Named, AllBytes, AllZeros, ZeroEnd, Copied, Never, Arguments, BySize, ByConstant, Inner, Nothing, Evenly, Exactly, Uneven, All, Zeroes, OneCall, OneListed, EachCall, EachListed, CopyAll, inner, steps, Cases, Case, Default, NoDefault, cases, Body, Struct, Casetype, Where, body}
 use Rattle.td_lower_blocks.specs.Lowered.{definition_body, definition_block}
 use Rattle.td_lower_blocks.proofs.Ending.{ends_body}
 use Rattle.td_lower_means.proofs.Laid.{Forms}
@@ -56,6 +56,9 @@ forms_steps (Skipped width site k) = (tt, forms_steps k)
 forms_steps (Number slot order width site k) = (tt, forms_steps k)
 forms_steps (Listed slot order width set site t k) = (tt, (tt, (tt, forms_steps k)))
 forms_steps (Part slot unit low width k) = (tt, forms_steps k)
+forms_steps (Computed t slot e k) = forms_value false t e _ (tt, forms_steps k)
+forms_steps (Kept slot cell k) = (tt, forms_steps k)
+forms_steps (Remaining slot k) = (tt, forms_steps k)
 forms_steps (Test t site e k) = forms_tested false t e 4 site (steps k) (forms_steps k)
 forms_steps (Act t site a k) = (forms_acts t site a Done tt, forms_steps k)
 forms_steps (Named t routine cells site args k) = forms_values false t args _ (tt, forms_steps k)

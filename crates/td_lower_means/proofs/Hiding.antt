@@ -6,7 +6,7 @@ use Rattle.std.proofs.lemmas.Bool.{or_cases, eqb-true, false≢true}
 use Rattle.td_num.specs.Lists.{Each}
 use Rattle.td_core.specs.Term.{Term, number, name, complement, negation, compute, compare, both, either, choice, range_okay, Deed, done, set, keep, fork, answer, give_up}
 use Rattle.td_core.specs.declared.expressions.Scalar.TheVariants as scalar
-use Rattle.td_lower_means.specs.Imports.{Element, Number, Listed, Named, Unit as UnitElement, Rest, Zeros, Extent, Once, Filling, OnceFilling, UpToZero, Bits, Part, Field, TypeDef}
+use Rattle.td_lower_means.specs.Imports.{Element, Number, Listed, Named, Unit as UnitElement, Rest, Zeros, Extent, Once, Filling, OnceFilling, UpToZero, Given, Expression, FromCell, Left, Bits, Part, Field, TypeDef}
 use Rattle.td_core.specs.Formed.{Bound, IsScoped, IsOptionScoped, IsDeedFormed, IsActionFormed, given, whole, part_bound, parts_scope, ArePartsFormed, AreArgsFormed, params_at, IsElementFormed, IsExtentFormed, AreFieldsFormed}
 use Rattle.td_expr.specs.Naming.{names, deed_names}
 use Rattle.td_meaning.specs.Naming.{some_name, in_option, part_names, parts_name, element_names, extent_names, field_names, fields_name, is_needed}
@@ -102,11 +102,14 @@ element_hidden ds n UnitElement cells scope j h s m = false≢true m
 element_hidden ds n Rest cells scope j h s m = false≢true m
 element_hidden ds n Zeros cells scope j h s m = false≢true m
 
-extent_hidden : (extent : Extent) (scope : List Bound) (j : ℕ) → Hidden scope j → IsExtentFormed scope extent → extent_names j extent ≡ true → ⊥
-extent_hidden Once scope j h s m = false≢true m
-extent_hidden (Filling size step) scope j h s m = names_hidden size scope j h s m
-extent_hidden (OnceFilling size step) scope j h s m = names_hidden size scope j h s m
-extent_hidden (UpToZero size) scope j h s m = names_hidden size scope j h s m
+extent_hidden : (element : Element) (extent : Extent) (cells scope : List Bound) (j : ℕ) → Hidden scope j → IsExtentFormed cells scope element extent → extent_names j extent ≡ true → ⊥
+extent_hidden element Once cells scope j h s m = false≢true m
+extent_hidden element (Filling size step) cells scope j h s m = names_hidden size scope j h s m
+extent_hidden element (OnceFilling size step) cells scope j h s m = names_hidden size scope j h s m
+extent_hidden element (UpToZero size) cells scope j h s m = names_hidden size scope j h s m
+extent_hidden element (Given (Expression span e)) cells scope j h s m = names_hidden e scope j h s m
+extent_hidden element (Given (FromCell cell)) cells scope j h s m = false≢true m
+extent_hidden element (Given Left) cells scope j h s m = false≢true m
 
 pub scope_hidden : (element : Element) (extent : Extent) (ps : List Part) (scope : List Bound) (j : ℕ) → Hidden scope j → Hidden (parts_scope element extent scope ps) j
 scope_hidden element extent [] scope j h = h
@@ -119,7 +122,7 @@ fields_hidden ds n (f ∷ fs) cells scope j h s m = elim (or_cases (field_names 
   | inl x ↦ elim (or_cases (element_names j f.element) (extent_names j f.extent || parts_name j f.parts) x) [
     | inl y ↦ element_hidden ds n f.element cells scope j h s.0 y
     | inr y ↦ elim (or_cases (extent_names j f.extent) (parts_name j f.parts) y) [
-      | inl z ↦ extent_hidden f.extent scope j h s.1.0 z
+      | inl z ↦ extent_hidden f.element f.extent cells scope j h s.1.0 z
       | inr z ↦ parts_hidden f.element f.extent f.parts cells scope j h s.1.1.0 z
     ]
   ]

@@ -135,6 +135,7 @@ module _ (T : Parts) (message places : List ℕ) (n : ℕ) (room : end_of T n �
     passed (i.Set b k) x = h _
     passed i.Mark x = h _
     passed (i.Copy b k site) x = put_is _ _ _ _ _ site
+    passed (i.Left a) x = h _
 
     stopped : (j : Instr) → IsLast j → led pc to (effect T n message places pc j s) ≡ passes T n message places calling j nowhere s
     stopped i.Return x = refl
@@ -164,6 +165,7 @@ module _ (T : Parts) (message places : List ℕ) (n : ℕ) (room : end_of T n �
     stopped (i.Set b k) x = absurd x
     stopped i.Mark x = absurd x
     stopped (i.Copy b k site) x = absurd x
+    stopped (i.Left a) x = absurd x
 
   -- a jump ahead, within the routine
   hop : (pc t : ℕ) (s : State) → pc < t → t < end_of T n → passage (jump T message n places pc t s) ≡ from t s

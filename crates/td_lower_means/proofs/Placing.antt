@@ -3,13 +3,13 @@ use Rattle.std.proofs.Common.{◌≡◌, ℕ, suc, ◌+◌, ◌≤◌, Bool, tru
 use Rattle.std.proofs.Math.Nat.{le-max_left}
 use Rattle.std.proofs.lemmas.List.{length-append}
 use Rattle.std.proofs.lemmas.Option.{slice_get-get_or}
-use Rattle.td_lower_means.specs.Imports.{NumberType, Element, Number, Listed, Named, Unit as UnitElement, Rest, Zeros, Extent, Once, Filling, OnceFilling, UpToZero, Bits, Param, CopyOut, Part, Field, Case, Body, Struct, Casetype, TypeDef}
+use Rattle.td_lower_means.specs.Imports.{NumberType, Element, Number, Listed, Named, Unit as UnitElement, Rest, Zeros, Extent, Once, Filling, OnceFilling, UpToZero, Given, Source, Expression, FromCell, Left, Bits, Param, CopyOut, Part, Field, Case, Body, Struct, Casetype, TypeDef}
 use Rattle.td_num.specs.Lists.{Each}
 use Rattle.td_core.specs.Term.{Term, Deed, done, set, keep, fork, answer, give_up}
 use Rattle.td_core.specs.declared.expressions.Scalar.TheVariants as scalar
 use Rattle.td_core.specs.declared.kind.Kind.{Kind}
 use Rattle.td_core.specs.Formed.{Bound, IsScoped, IsOptionScoped, IsDeedFormed, IsActionFormed, given, whole, param_bounds, own_bounds, part_bound, parts_scope, ArePartsFormed, AreArgsFormed, params_at, IsElementFormed, IsExtentFormed, AreFieldsFormed, AreCasesFormed, IsDefaultFormed, IsBodyFormed}
-use Rattle.td_core.specs.WellFormed.{OfSome, EachField, IsSorted, IsDeedSorted, IsElementSorted, IsExtentSorted, IsPartSorted, IsFieldSorted, IsSwitchSorted, IsDefinitionSorted, AreBitsOf, AreParts, AreFieldParts, IsRefinable, IsZeroEnded, IsFieldWhole}
+use Rattle.td_core.specs.WellFormed.{OfSome, EachField, IsSorted, IsDeedSorted, IsElementSorted, IsExtentSorted, IsPartSorted, IsFieldSorted, IsSwitchSorted, IsDefinitionSorted, AreBitsOf, AreParts, AreFieldParts, IsRefinable, IsOfNumbers, IsFieldWhole}
 use Rattle.td_expr.specs.Same.{constant_of}
 use Rattle.td_meaning.specs.Naming.{is_needed}
 use Rattle.td_kinds.specs.KindRules.{field_faults, fields_faults, cases_faults, default_faults, body_faults, kinds_of, is_empty}
@@ -17,7 +17,7 @@ use Rattle.td_kinds.specs.declared.error.KindFault.{KindFault}
 use Rattle.td_kinds.proofs.Faultless.{faults_at}
 use Rattle.td_core.specs.Sizes.{HasSteps, IsFieldStepped}
 use Rattle.td_lower_blocks.specs.Lowered.{terms_of, is_read}
-use Rattle.td_lower_blocks.specs.Placed.{DeedPlaced, OptionExpr, OptionDeed, PartsPlaced, HasBits, AllBits, AloneFrom, Alone, ArgsPlaced, ElementPlaced, SizePlaced, ElementsPlaced, OnePlaced, IsNumber, ShapePlaced, CopyPlaced, FieldsPlaced, DefaultPlaced, CasesPlaced, BodyPlaced, count_of, params_of}
+use Rattle.td_lower_blocks.specs.Placed.{DeedPlaced, OptionExpr, OptionDeed, PartsPlaced, HasBits, AllBits, AloneFrom, Alone, ArgsPlaced, ElementPlaced, SizePlaced, ElementsPlaced, OnePlaced, IsNumber, SourcePlaced, ShapePlaced, CopyPlaced, FieldsPlaced, DefaultPlaced, CasesPlaced, BodyPlaced, count_of, params_of}
 use Rattle.td_lower_blocks.specs.Tops.{deed_levels, action_levels, parts_levels, fields_levels, default_levels, cases_levels, body_levels, term_top, terms_top, test_top, deed_top, action_top, parts_top, shape_top, content_top, fields_top, default_top, cases_top, body_top}
 use Rattle.td_lower_means.specs.Ready.{DefinitionsArePlaced}
 use Rattle.td_lower_means.proofs.Registers.{under_left, under_right, is_expr}
@@ -203,7 +203,7 @@ module _ (ds : List TypeDef) (n count : ℕ) (kinds : ℕ → Kind) (cells : Lis
   size_placed size scope L u None le s b h = is_expr scope size false L u R le s b h
   size_placed size scope L u (Some m) le s b h = tt
 
-  number_ended : (element : Element) (size : Term) → IsZeroEnded element (UpToZero size) → IsNumber element
+  number_ended : (element : Element) (size : Term) → IsOfNumbers element (UpToZero size) → IsNumber element
   number_ended (Number type) size h = tt
   number_ended (Listed base v) size h = absurd h
   number_ended (Named d args own) size h = absurd h
@@ -211,8 +211,14 @@ module _ (ds : List TypeDef) (n count : ℕ) (kinds : ℕ → Kind) (cells : Lis
   number_ended Rest size h = absurd h
   number_ended Zeros size h = absurd h
 
-  shape_placed : (element : Element) (extent : Extent) (f : Field) (last : Bool) (scope : List Bound) (L : ℕ) → length scope ≡ L → IsElementFormed ds n cells scope element → IsExtentFormed scope extent → IsElementSorted element → IsExtentSorted extent
-      → HasSteps element extent → IsZeroEnded element extent → field_faults kinds (record { element = element; extent = extent; copy = f.copy; parts = f.parts; place = f.place }) last ≡ [] → shape_top t element extent ≤ R
+  source_placed : (element : Element) (source : Source) (scope : List Bound) (L : ℕ) → length scope ≡ L → IsExtentFormed cells scope element (Given source) → IsExtentSorted (Given source)
+      → shape_top t element (Given source) ≤ R → SourcePlaced R L (suc t) source
+  source_placed element (Expression span e) scope L le x y h = is_expr scope e false L (suc t) R le x y h
+  source_placed element (FromCell cell) scope L le x y h = tt
+  source_placed element Left scope L le x y h = tt
+
+  shape_placed : (element : Element) (extent : Extent) (f : Field) (last : Bool) (scope : List Bound) (L : ℕ) → length scope ≡ L → IsElementFormed ds n cells scope element → IsExtentFormed cells scope element extent → IsElementSorted element → IsExtentSorted extent
+      → HasSteps element extent → IsOfNumbers element extent → field_faults kinds (record { element = element; extent = extent; copy = f.copy; parts = f.parts; place = f.place }) last ≡ [] → shape_top t element extent ≤ R
       → ShapePlaced n (params_of ds) R L t element extent
   shape_placed element Once f last scope L le s x b y w z k h =
       element_placed element scope L le s b (under_left (t + 2) (terms_top (suc t) (terms_of element)) R h) (under_right (t + 2) (terms_top (suc t) (terms_of element)) R h)
@@ -231,6 +237,7 @@ module _ (ds : List TypeDef) (n count : ℕ) (kinds : ℕ → Kind) (cells : Lis
       let room = under_left (u + 3) (term_top u size) R h2 in
       (omega (arith, room), (size_placed size scope L u (constant_of size) le x y (under_right (u + 3) (term_top u size) R h2), (one_placed element scope L le s b h1, w)))
   shape_placed element (UpToZero size) f last scope L le s x b y w z k h = (is_expr scope size false L (suc t) R le x y h, number_ended element size z)
+  shape_placed element (Given source) f last scope L le s x b y w z k h = source_placed element source scope L le x y h
 
   shape_under : (element : Element) (extent : Extent) (copy : Option CopyOut) → content_top t element extent copy ≤ R → shape_top t element extent ≤ R
   shape_under element extent None h = h
@@ -238,8 +245,9 @@ module _ (ds : List TypeDef) (n count : ℕ) (kinds : ℕ → Kind) (cells : Lis
   shape_under element (Filling size step) (Some c) h = under_left (shape_top t element (Filling size step)) (term_top (suc t) size) R h
   shape_under element (OnceFilling size step) (Some c) h = h
   shape_under element (UpToZero size) (Some c) h = h
+  shape_under element (Given source) (Some c) h = h
 
-  copy_placed : (element : Element) (extent : Extent) (copy : Option CopyOut) (scope : List Bound) (L : ℕ) → length scope ≡ L → IsExtentFormed scope extent → IsExtentSorted extent
+  copy_placed : (element : Element) (extent : Extent) (copy : Option CopyOut) (scope : List Bound) (L : ℕ) → length scope ≡ L → IsExtentFormed cells scope element extent → IsExtentSorted extent
       → content_top t element extent copy ≤ R → CopyPlaced R L t extent copy
   copy_placed element extent None scope L le x y h = tt
   copy_placed element Once (Some c) scope L le x y h = tt
@@ -247,6 +255,7 @@ module _ (ds : List TypeDef) (n count : ℕ) (kinds : ℕ → Kind) (cells : Lis
       is_expr scope size false L (suc t) R le x y (under_right (shape_top t element (Filling size step)) (term_top (suc t) size) R h)
   copy_placed element (OnceFilling size step) (Some c) scope L le x y h = tt
   copy_placed element (UpToZero size) (Some c) scope L le x y h = tt
+  copy_placed element (Given source) (Some c) scope L le x y h = tt
 
   -- Parts of a field
 
@@ -271,6 +280,8 @@ module _ (ds : List TypeDef) (n count : ℕ) (kinds : ℕ → Kind) (cells : Lis
   alone_from (Number type) (OnceFilling size step) (Some b) ps h = absurd h
   alone_from (Number type) (UpToZero size) None ps h = single ps h
   alone_from (Number type) (UpToZero size) (Some b) ps h = absurd h
+  alone_from (Number type) (Given source) None ps h = single ps h
+  alone_from (Number type) (Given source) (Some b) ps h = absurd h
   alone_from (Listed base v) extent None ps h = single ps h
   alone_from (Listed base v) extent (Some b) ps h = absurd h
   alone_from (Named d args own) extent None ps h = single ps h
@@ -293,10 +304,12 @@ module _ (ds : List TypeDef) (n count : ℕ) (kinds : ℕ → Kind) (cells : Lis
   read_enough (Number type) (Filling size step) ps later scope L le r s l m = absurd (unneeded ds n (Number type) (Filling size step) (λ b. refl) ps later cells scope L le r s l m)
   read_enough (Number type) (OnceFilling size step) ps later scope L le r s l m = absurd (unneeded ds n (Number type) (OnceFilling size step) (λ b. refl) ps later cells scope L le r s l m)
   read_enough (Number type) (UpToZero size) ps later scope L le r s l m = absurd (unneeded ds n (Number type) (UpToZero size) (λ b. refl) ps later cells scope L le r s l m)
+  read_enough (Number type) (Given source) ps later scope L le r s l m = refl
   read_enough (Listed base v) Once ps later scope L le r s l m = refl
   read_enough (Listed base v) (Filling size step) ps later scope L le r s l m = absurd (unneeded ds n (Listed base v) (Filling size step) (λ b. refl) ps later cells scope L le r s l m)
   read_enough (Listed base v) (OnceFilling size step) ps later scope L le r s l m = absurd (unneeded ds n (Listed base v) (OnceFilling size step) (λ b. refl) ps later cells scope L le r s l m)
   read_enough (Listed base v) (UpToZero size) ps later scope L le r s l m = absurd (unneeded ds n (Listed base v) (UpToZero size) (λ b. refl) ps later cells scope L le r s l m)
+  read_enough (Listed base v) (Given source) ps later scope L le r s l m = absurd (unneeded ds n (Listed base v) (Given source) (λ b. refl) ps later cells scope L le r s l m)
   read_enough (Named d args own) extent ps later scope L le r s l m = absurd (unneeded ds n (Named d args own) extent (λ b. refl) ps later cells scope L le r s l m)
   read_enough UnitElement extent ps later scope L le r s l m = absurd (unneeded ds n UnitElement extent (λ b. refl) ps later cells scope L le r s l m)
   read_enough Rest extent ps later scope L le r s l m = absurd (unneeded ds n Rest extent (λ b. refl) ps later cells scope L le r s l m)
@@ -321,7 +334,7 @@ module _ (ds : List TypeDef) (n count : ℕ) (kinds : ℕ → Kind) (cells : Lis
         omega (arith, h1, above),
         (
           (
-            shape_placed f.element f.extent f (is_empty fs) scope L le s.0 s.1.0 b.0.0 b.0.1.0 y.0 w.0.ended k1 (shape_under f.element f.extent f.copy g1),
+            shape_placed f.element f.extent f (is_empty fs) scope L le s.0 s.1.0 b.0.0 b.0.1.0 y.0 w.0.numbers k1 (shape_under f.element f.extent f.copy g1),
             copy_placed f.element f.extent f.copy scope L le s.1.0 b.0.1.0 g1,
           ),
           (

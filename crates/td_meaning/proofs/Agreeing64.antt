@@ -5,14 +5,14 @@ use Rattle.std.specs.Prelude.{slice_index, slice_set, ◌||◌, is_some}
 use Rattle.std.proofs.lemmas.Bool.{eq-eqb, false≢true}
 use Rattle.td_core.specs.Term.{Term, number, name, complement, negation, compute, compare, both, either, choice, range_okay, Deed, done, set, keep, fork, answer, give_up}
 use Rattle.td_core.specs.Types.{limit, type_of}
-use Rattle.td_meaning.specs.Imports.{NameId, Element, Number, Listed, Named, Unit as UnitElement, Rest, Zeros, CopyOut, Extent, Once, Filling, OnceFilling, UpToZero, Part, Field, Constraint}
+use Rattle.td_meaning.specs.Imports.{NameId, Element, Number, Listed, Named, Unit as UnitElement, Rest, Zeros, CopyOut, Extent, Once, Filling, OnceFilling, UpToZero, Given, Source, Expression, FromCell, Left, Part, Field, Constraint}
 use Rattle.td_core.specs.Outcome.{Ending, Accepted, Rejected, Behavior, after_reading, onward, and_then, within}
 use Rattle.td_expr.specs.Naming.{names, deed_names}
 use Rattle.td_expr.specs.Value.{chosen, flip}
 use Rattle.td_meaning.specs.Doing.{Effect, On, Returned, Aborted, after, either_way}
-use Rattle.td_meaning.specs.Naming.{some_name, in_option, part_names, parts_name, element_names, extent_names, field_names, fields_name, is_needed}
-use Rattle.td_meaning.specs.Meaning.{Sense, demanded, filled, filled_once, element_up_to_zero, ended, bits_of, field_place, field_number, number_places, first_name, extended}
-use Rattle.td_meaning.specs.Words64.{truth_number, is_truth, applied, compared_by, range_okay_by, value_of, values, is_met, doing, acted, checked, with_part, parts_meaning, element_meaning, shape_meaning, copied_meaning, content_meaning, fields_meaning}
+use Rattle.td_meaning.specs.Naming.{some_name, in_option, part_names, parts_name, element_names, source_names, extent_names, field_names, fields_name, is_needed}
+use Rattle.td_meaning.specs.Meaning.{Sense, demanded, filled, filled_once, element_up_to_zero, ended, bits_of, field_place, number_places, first_name, extended}
+use Rattle.td_meaning.specs.Words64.{truth_number, is_truth, applied, compared_by, range_okay_by, value_of, values, is_met, doing, acted, checked, with_part, parts_meaning, element_meaning, shape_meaning, copied_meaning, content_meaning, given_value, field_number, fields_meaning}
 use Rattle.td_meaning.proofs.Agreeing.{Agree, weaker, on_left, on_right, agree_more}
 use Rattle.td_num.proofs.Truths.{or_right, or_cases, or_left}
 
@@ -206,6 +206,7 @@ module _ (sets : List (List ℕ)) (senses : ℕ → Sense) (message : List ℕ) 
       let v = value_same size env other s in
       λ i. filled_once (e i p) step (v i) end p cells
   shape_same el (UpToZero size) env other places end p cells a s = ap (λ v. element_up_to_zero el v message end p cells) (value_same size env other s)
+  shape_same el (Given source) env other places end p cells a s = refl
 
   content_same : (el : Element) (extent : Extent) (copy : Option CopyOut) (env other places : List ℕ) (end p : ℕ) (cells : List ℕ) → Agree (λ i. element_names i el) env other → Agree (λ i. extent_names i extent) env other → content_meaning sets senses el extent copy env places message end p cells ≡ content_meaning sets senses el extent copy other places message end p cells
   content_same el extent None env other places end p cells a s = shape_same el extent env other places end p cells a s
@@ -213,6 +214,28 @@ module _ (sets : List (List ℕ)) (senses : ℕ → Sense) (message : List ℕ) 
   content_same el Once (Some c) env other places end p cells a s = shape_same el Once env other places end p cells a s
   content_same el (OnceFilling size step) (Some c) env other places end p cells a s = shape_same el (OnceFilling size step) env other places end p cells a s
   content_same el (UpToZero size) (Some c) env other places end p cells a s = shape_same el (UpToZero size) env other places end p cells a s
+  content_same el (Given source) (Some c) env other places end p cells a s = shape_same el (Given source) env other places end p cells a s
+
+  given_same : (source : Source) (env other places : List ℕ) (end p : ℕ) (cells : List ℕ) → Agree (λ i. source_names i source) env other → given_value source env places end p cells ≡ given_value source other places end p cells
+  given_same (Expression span e) env other places end p cells s = value_same e env other s
+  given_same (FromCell cell) env other places end p cells s = refl
+  given_same Left env other places end p cells s = refl
+
+  number_same : (el : Element) (extent : Extent) (env other places : List ℕ) (end p : ℕ) (cells : List ℕ) → Agree (λ i. extent_names i extent) env other → field_number el extent env places message end p cells ≡ field_number el extent other places message end p cells
+  number_same (Number type) Once env other places end p cells s = refl
+  number_same (Number type) (Filling size step) env other places end p cells s = refl
+  number_same (Number type) (OnceFilling size step) env other places end p cells s = refl
+  number_same (Number type) (UpToZero size) env other places end p cells s = refl
+  number_same (Number type) (Given source) env other places end p cells s = given_same source env other places end p cells s
+  number_same (Listed base k) Once env other places end p cells s = refl
+  number_same (Listed base k) (Filling size step) env other places end p cells s = refl
+  number_same (Listed base k) (OnceFilling size step) env other places end p cells s = refl
+  number_same (Listed base k) (UpToZero size) env other places end p cells s = refl
+  number_same (Listed base k) (Given source) env other places end p cells s = refl
+  number_same (Named j args own) extent env other places end p cells s = refl
+  number_same UnitElement extent env other places end p cells s = refl
+  number_same Rest extent env other places end p cells s = refl
+  number_same Zeros extent env other places end p cells s = refl
 
   pub fields_same : (ty : NameId) (fs : List Field) (env other places : List ℕ) (end p : ℕ) (cells : List ℕ) → Agree (λ i. fields_name i fs) env other → fields_meaning sets senses ty fs env places message end p cells ≡ fields_meaning sets senses ty fs other places message end p cells
   unfolding fields_meaning
@@ -224,18 +247,19 @@ module _ (sets : List (List ℕ)) (senses : ℕ → Sense) (message : List ℕ) 
         | inl part ↦ or_left (field_names i f) (fields_name i later) (or_right (element_names i f.element) (extent_names i f.extent || parts_name i f.parts) (or_right (extent_names i f.extent) (parts_name i f.parts) part))
         | inr field ↦ or_right (field_names i f) (fields_name i later) field
       ]) in
-      let n = field_number f.element f.extent message p in
+      let sized = on_left (λ i. extent_names i f.extent) (λ i. parts_name i f.parts) env other own' in
+      let n = field_number f.element f.extent env places message end p cells in
+      let m = field_number f.element f.extent other places message end p cells in
       let place = field_place ty (first_name f.parts) p in
       let shape = content_same f.element f.extent f.copy env other places end p cells
-      (on_left (λ i. element_names i f.element) (λ i. extent_names i f.extent || parts_name i f.parts) env other own)
-      (on_left (λ i. extent_names i f.extent) (λ i. parts_name i f.parts) env other own') in
-      let rest = λ (k : ℕ) (v : List ℕ) (q : ℕ) (c : List ℕ). after_reading (number_places (is_needed k f.parts later) f.element f.extent p) (and_then (parts_meaning ty p n f.parts v places q c) (fields_meaning sets senses ty later (extended v n f.parts) places message end)) in
+      (on_left (λ i. element_names i f.element) (λ i. extent_names i f.extent || parts_name i f.parts) env other own) sized in
+      let rest = λ (k : ℕ) (v : List ℕ) (x q : ℕ) (c : List ℕ). after_reading (number_places (is_needed k f.parts later) f.element f.extent p) (and_then (parts_meaning ty p x f.parts v places q c) (fields_meaning sets senses ty later (extended v x f.parts) places message end)) in
       then_alike (within place (content_meaning sets senses f.element f.extent f.copy env places message end p cells)) (within place (content_meaning sets senses f.element f.extent f.copy other places message end p cells))
-      (rest (length env) env) (rest (length other) other)
+      (rest (length env) env n) (rest (length other) other m)
       (ap (within place) shape)
-      (λ q c. ap (λ k. rest k env q c) a.long
+      (λ q c. ap (λ k. rest k env n q c) a.long
       ∙ ap (after_reading (number_places (is_needed (length other) f.parts later) f.element f.extent p))
-      (rest_alike ty f later env other places end p n n q c after (λ _. refl) (λ env other r e b. fields_same ty later env other places end r e b)))
+      (rest_alike ty f later env other places end p n m q c after (λ _. number_same f.element f.extent env other places end p cells sized) (λ env other r e b. fields_same ty later env other places end r e b)))
     where
       rest_alike : (ty : NameId) (f : Field) (later : List Field) (env other places : List ℕ) (end start n m q : ℕ) (cells : List ℕ) → Agree (tail f.parts later) env other → (is_needed (length env) f.parts later ≡ true → n ≡ m)
           → ((env other : List ℕ) (r : ℕ) (e : List ℕ) → Agree (λ i. fields_name i later) env other → fields_meaning sets senses ty later env places message end r e ≡ fields_meaning sets senses ty later other places message end r e)

@@ -9,7 +9,7 @@ use Rattle.td_num.specs.Numbers.{bytes_in, number_at, places_from}
 use Rattle.td_num.specs.Lists.{Each, is_among}
 use Rattle.td_num.proofs.Lists.{each_map, each_taken}
 use Rattle.td_core.specs.Term.{Term, Deed, done, set, keep, fork, answer, give_up}
-use Rattle.td_meaning.specs.Imports.{NameId, Element, Number, Listed, Named, Unit as UnitElement, Rest, Zeros, Extent, Once, Filling, OnceFilling, UpToZero, CopyOut, Buffer, Part, Field, Case, Body, Struct, Casetype, TypeDef, Reason, Constraint, Impossible, ListSize, NotEnough}
+use Rattle.td_meaning.specs.Imports.{NameId, Element, Number, Listed, Named, Unit as UnitElement, Rest, Zeros, Extent, Once, Filling, OnceFilling, UpToZero, Given, CopyOut, Buffer, Part, Field, Case, Body, Struct, Casetype, TypeDef, Reason, Constraint, Impossible, ListSize, NotEnough}
 use Rattle.td_core.specs.Outcome.{Behavior, FramePlace, Ending, Accepted, Rejected, accepted, rejected, and_then, onward, ending_within, within, after_reading}
 use Rattle.td_core.specs.WellFormed.{OfSome, EachField}
 use Rattle.td_core.specs.Copies.{IsCopyWhole, AreBuffersGiven, AreOwnGiven, IsElementGiven, NamesCells, IsFieldCopying}
@@ -335,6 +335,7 @@ module _ (first : ℕ) (message : List ℕ) (sets : List (List ℕ)) (ds : List 
         (λ r last. kept_then first last (each q r last) (λ t cells. demanded ListSize (nat_eq t q) p t cells) (element_kept element env p q r last g w)
         (λ t final. kept_demanded first ListSize (nat_eq t q) p t final)))
     shape_kept element (UpToZero size) env end p cells g w = up_to_zero_kept first element (natural_of size env) message end p cells
+    shape_kept element (Given source) env end p cells g w = kept_same first cells (accepted p cells) refl
 
     copied_kept : (f : Field) (c : CopyOut) (n end p : ℕ) (cells : List ℕ) → IsCopyWhole d f c
         → Kept first cells (and_then (taken n p end p cells) (λ q cells. after_reading (places_from p n) (accepted q (with_copy c places p n cells))))
@@ -355,12 +356,13 @@ module _ (first : ℕ) (message : List ℕ) (sets : List (List ℕ)) (ds : List 
     content_kept f Once (Some c) env end p cells h whole = shape_kept f.element Once env end p cells h.copying.element h.map_whole
     content_kept f (OnceFilling size step) (Some c) env end p cells h whole = shape_kept f.element (OnceFilling size step) env end p cells h.copying.element h.map_whole
     content_kept f (UpToZero size) (Some c) env end p cells h whole = shape_kept f.element (UpToZero size) env end p cells h.copying.element h.map_whole
+    content_kept f (Given source) (Some c) env end p cells h whole = shape_kept f.element (Given source) env end p cells h.copying.element h.map_whole
 
     fields_kept : (ty : NameId) (fs : List Field) (env : List ℕ) (end p : ℕ) (cells : List ℕ) → Each (IsFieldKept ds d) fs → Kept first cells (fields_meaning sets senses ty fs env places message end p cells)
     unfolding fields_meaning
     fields_kept ty [] env end p cells h = kept_same first cells (accepted p cells) refl
     fields_kept ty (f ∷ later) env end p cells h =
-        let v = field_number f.element f.extent message p in
+        let v = field_number f.element f.extent env places message end p cells in
         let content = content_meaning sets senses f.element f.extent f.copy env places message end p cells in
         let reads = number_places (is_needed (length env) f.parts later) f.element f.extent p in
         let rest = λ (q : ℕ) (cells : List ℕ). and_then (parts_meaning ty p v f.parts env places q cells) (fields_meaning sets senses ty later (extended env v f.parts) places message end) in

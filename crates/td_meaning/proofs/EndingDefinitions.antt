@@ -55,7 +55,7 @@ module _ (count : ℕ) (sets : List (List ℕ)) (senses : ℕ → Sense) (throug
   unfolding fields_meaning
   fields_within ty [] env places end p cells le low small h = (le, small)
   fields_within ty (x ∷ later) env places end p cells le low small h =
-      let v = field_number x.element x.extent message p in
+      let v = field_number x.element x.extent env places message end p cells in
       let shape = content_meaning sets senses x.element x.extent x.copy env places message end p cells in
       let place = field_place ty (first_name x.parts) p in
       let Later : ℕ → List ℕ → Type 0 = OnFields Sound sets senses throughs ty later (extended env v x.parts) places message end in

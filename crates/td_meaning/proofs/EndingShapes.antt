@@ -5,7 +5,7 @@ use Rattle.std.proofs.lemmas.List.{length-set}
 use Rattle.td_num.specs.Numbers.{bytes_in, number_at, places_from}
 use Rattle.td_num.specs.Lists.{is_among, first_where}
 use Rattle.td_num.proofs.Lists.{found_below}
-use Rattle.td_meaning.specs.Imports.{Element, Number, Listed, Named, Unit as UnitElement, Rest, Zeros, Extent, Once, Filling, OnceFilling, UpToZero, CopyOut, Constraint, ListSize}
+use Rattle.td_meaning.specs.Imports.{Element, Number, Listed, Named, Unit as UnitElement, Rest, Zeros, Extent, Once, Filling, OnceFilling, UpToZero, Given, CopyOut, Constraint, ListSize}
 use Rattle.td_core.specs.Outcome.{Behavior, accepted, after_reading, and_then}
 use Rattle.td_expr.specs.Sound.{Sound}
 use Rattle.td_meaning.specs.Doing.{natural_of}
@@ -114,6 +114,7 @@ module _ (count : ℕ) (sets : List (List ℕ)) (senses : ℕ → Sense) (throug
       (λ x last there few on. within_then q count (each q x last).ending (each q x last).reads (λ r more. demanded ListSize (nat_eq r q) p r more) (λ r more. Unit {0})
       (element_within element p q x last enough there short few on) (anywhere (each q x last).ending) (λ r final here few on. within_demanded q count ListSize (nat_eq r q) p r final enough (λ t. here) few))))
   shape_within element (UpToZero size) end p cells le low small h = up_to_zero_within element (natural_of size env) end p cells le small
+  shape_within element (Given source) end p cells le low small h = (le, small)
 
   copy_cells : (c : CopyOut) (p n : ℕ) (cells : List ℕ) → p < 2 ^ 64 → n < 2 ^ 64 → AreCells count cells → AreCells count (with_copy c places p n cells)
   copy_cells c p n cells low few small =
@@ -134,3 +135,4 @@ module _ (count : ℕ) (sets : List (List ℕ)) (senses : ℕ → Sense) (throug
   content_within element Once (Some c) end p cells le low small h = shape_within element Once end p cells le low small h
   content_within element (OnceFilling size step) (Some c) end p cells le low small h = shape_within element (OnceFilling size step) end p cells le low small h
   content_within element (UpToZero size) (Some c) end p cells le low small h = shape_within element (UpToZero size) end p cells le low small h
+  content_within element (Given source) (Some c) end p cells le low small h = shape_within element (Given source) end p cells le low small h

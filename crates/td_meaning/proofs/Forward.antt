@@ -5,7 +5,7 @@ use Rattle.std.proofs.lemmas.Bool.{cases_lt}
 use Rattle.td_num.specs.Numbers.{bytes_in, number_at, places_from}
 use Rattle.td_num.specs.Lists.{Each, is_among}
 use Rattle.td_core.specs.Term.{Term}
-use Rattle.td_meaning.specs.Imports.{NameId, Element, Number, Listed, Named, Unit as UnitElement, Rest, Zeros, CopyOut, Extent, Once, Filling, OnceFilling, UpToZero, Field, Body, Struct, Casetype, TypeDef, NotEnough, Constraint, ListSize}
+use Rattle.td_meaning.specs.Imports.{NameId, Element, Number, Listed, Named, Unit as UnitElement, Rest, Zeros, CopyOut, Extent, Once, Filling, OnceFilling, UpToZero, Given, Field, Body, Struct, Casetype, TypeDef, NotEnough, Constraint, ListSize}
 use Rattle.td_core.specs.Outcome.{Behavior, FramePlace, Accepted, Rejected, rejected, and_then, within, after_reading}
 use Rattle.td_meaning.specs.Doing.{natural_of, is_true}
 use Rattle.td_meaning.specs.Naming.{is_needed}
@@ -85,6 +85,7 @@ module _ (b c : List ℕ) (q : ℕ) (alike : (k : ℕ) → k < q → slice_index
         fits_at true start r s cells more e = let f : Accepted r cells ≡ Accepted s more = e in cc
         fits_at false start r s cells more e = absurd (let f : Rejected ListSize start [] cells ≡ Accepted s more = e in cc)
     shape_near element (UpToZero size) env places end p cells le = element_up_to_zero_near b c q alike element (natural_of size env) end p cells
+    shape_near element (Given source) env places end p cells le = inl refl
 
     -- a number is read behind the same shape, and all else has no places
     numbers : (need : Bool) (element : Element) (extent : Extent) (env places : List ℕ) (end p : ℕ) (cells : List ℕ)
@@ -93,6 +94,7 @@ module _ (b c : List ℕ) (q : ℕ) (alike : (k : ℕ) → k < q → slice_index
     numbers need (Number type) (Filling size step) env places end p cells = inr refl
     numbers need (Number type) (OnceFilling size step) env places end p cells = inr refl
     numbers need (Number type) (UpToZero size) env places end p cells = inr refl
+    numbers need (Number type) (Given source) env places end p cells = inl refl
     numbers need (Listed base k) extent env places end p cells = inr refl
     numbers need (Named j args own) extent env places end p cells = inr refl
     numbers need UnitElement extent env places end p cells = inr refl
@@ -101,7 +103,7 @@ module _ (b c : List ℕ) (q : ℕ) (alike : (k : ℕ) → k < q → slice_index
 
     -- where a field ends up to q its number is the same
     field_number_alike : (element : Element) (extent : Extent) (env places : List ℕ) (end p r : ℕ) (cells more : List ℕ)
-        → (shape_meaning sets senses element extent env places b end p cells).ending ≡ Accepted r more → r ≤ q → field_number element extent b p ≡ field_number element extent c p
+        → (shape_meaning sets senses element extent env places b end p cells).ending ≡ Accepted r more → r ≤ q → field_number element extent env places b end p cells ≡ field_number element extent env places c end p cells
     field_number_alike (Number type) Once env places end p r cells more e le =
         let w = bytes_in type.width in
         let at : r ≡ p + w = taken_at (nat_le (p + w) end) p (p + w) r cells more e in
@@ -118,9 +120,11 @@ module _ (b c : List ℕ) (q : ℕ) (alike : (k : ℕ) → k < q → slice_index
     field_number_alike (Number type) (Filling size step) env places end p r cells more e le = refl
     field_number_alike (Number type) (OnceFilling size step) env places end p r cells more e le = refl
     field_number_alike (Number type) (UpToZero size) env places end p r cells more e le = refl
+    field_number_alike (Number type) (Given source) env places end p r cells more e le = refl
     field_number_alike (Listed base k) (Filling size step) env places end p r cells more e le = refl
     field_number_alike (Listed base k) (OnceFilling size step) env places end p r cells more e le = refl
     field_number_alike (Listed base k) (UpToZero size) env places end p r cells more e le = refl
+    field_number_alike (Listed base k) (Given source) env places end p r cells more e le = refl
     field_number_alike (Named j args own) extent env places end p r cells more e le = refl
     field_number_alike UnitElement extent env places end p r cells more e le = refl
     field_number_alike Rest extent env places end p r cells more e le = refl
@@ -133,6 +137,7 @@ module _ (b c : List ℕ) (q : ℕ) (alike : (k : ℕ) → k < q → slice_index
     content_near element Once (Some o) env places end p cells le = shape_near element Once env places end p cells le
     content_near element (OnceFilling size step) (Some o) env places end p cells le = shape_near element (OnceFilling size step) env places end p cells le
     content_near element (UpToZero size) (Some o) env places end p cells le = shape_near element (UpToZero size) env places end p cells le
+    content_near element (Given source) (Some o) env places end p cells le = shape_near element (Given source) env places end p cells le
 
     content_numbers : (need : Bool) (element : Element) (extent : Extent) (copy : Option CopyOut) (env places : List ℕ) (end p : ℕ) (cells : List ℕ)
         → (content_meaning sets senses element extent copy env places b end p cells ≡ content_meaning sets senses element extent copy env places c end p cells) ⊎ (number_places need element extent p ≡ [])
@@ -141,22 +146,24 @@ module _ (b c : List ℕ) (q : ℕ) (alike : (k : ℕ) → k < q → slice_index
     content_numbers need element Once (Some o) env places end p cells = numbers need element Once env places end p cells
     content_numbers need element (OnceFilling size step) (Some o) env places end p cells = numbers need element (OnceFilling size step) env places end p cells
     content_numbers need element (UpToZero size) (Some o) env places end p cells = numbers need element (UpToZero size) env places end p cells
+    content_numbers need element (Given source) (Some o) env places end p cells = numbers need element (Given source) env places end p cells
 
-    filling_alike : (element : Element) (size : Term) (step : Option ℕ) (p : ℕ) → field_number element (Filling size step) b p ≡ field_number element (Filling size step) c p
-    filling_alike (Number type) size step p = refl
-    filling_alike (Listed base k) size step p = refl
-    filling_alike (Named j args own) size step p = refl
-    filling_alike UnitElement size step p = refl
-    filling_alike Rest size step p = refl
-    filling_alike Zeros size step p = refl
+    filling_alike : (element : Element) (size : Term) (step : Option ℕ) (env places : List ℕ) (end p : ℕ) (cells : List ℕ) → field_number element (Filling size step) env places b end p cells ≡ field_number element (Filling size step) env places c end p cells
+    filling_alike (Number type) size step env places end p cells = refl
+    filling_alike (Listed base k) size step env places end p cells = refl
+    filling_alike (Named j args own) size step env places end p cells = refl
+    filling_alike UnitElement size step env places end p cells = refl
+    filling_alike Rest size step env places end p cells = refl
+    filling_alike Zeros size step env places end p cells = refl
 
     content_number_alike : (element : Element) (extent : Extent) (copy : Option CopyOut) (env places : List ℕ) (end p r : ℕ) (cells more : List ℕ)
-        → (content_meaning sets senses element extent copy env places b end p cells).ending ≡ Accepted r more → r ≤ q → field_number element extent b p ≡ field_number element extent c p
+        → (content_meaning sets senses element extent copy env places b end p cells).ending ≡ Accepted r more → r ≤ q → field_number element extent env places b end p cells ≡ field_number element extent env places c end p cells
     content_number_alike element extent None env places end p r cells more e le = field_number_alike element extent env places end p r cells more e le
-    content_number_alike element (Filling size step) (Some o) env places end p r cells more e le = filling_alike element size step p
+    content_number_alike element (Filling size step) (Some o) env places end p r cells more e le = filling_alike element size step env places end p cells
     content_number_alike element Once (Some o) env places end p r cells more e le = field_number_alike element Once env places end p r cells more e le
     content_number_alike element (OnceFilling size step) (Some o) env places end p r cells more e le = field_number_alike element (OnceFilling size step) env places end p r cells more e le
     content_number_alike element (UpToZero size) (Some o) env places end p r cells more e le = field_number_alike element (UpToZero size) env places end p r cells more e le
+    content_number_alike element (Given source) (Some o) env places end p r cells more e le = field_number_alike element (Given source) env places end p r cells more e le
 
     fields_near : (ty : NameId) (fs : List Field) (env places : List ℕ) (end p : ℕ) (cells : List ℕ) → p ≤ end → Near b c q alike (fields_meaning sets senses ty fs env places b end p cells) (fields_meaning sets senses ty fs env places c end p cells)
     unfolding fields_meaning
@@ -165,8 +172,8 @@ module _ (b c : List ℕ) (q : ℕ) (alike : (k : ℕ) → k < q → slice_index
         let site = field_place ty (first_name x.parts) p in
         let t = content_meaning sets senses x.element x.extent x.copy env places b end p cells in
         let u = content_meaning sets senses x.element x.extent x.copy env places c end p cells in
-        let v = field_number x.element x.extent b p in
-        let v' = field_number x.element x.extent c p in
+        let v = field_number x.element x.extent env places b end p cells in
+        let v' = field_number x.element x.extent env places c end p cells in
         let reads = number_places (is_needed (length env) x.parts later) x.element x.extent p in
         let go = λ (message : List ℕ) (n r : ℕ) (cells : List ℕ). and_then (parts_meaning ty p n x.parts env places r cells) (fields_meaning sets senses ty later (extended env n x.parts) places message end) in
         let rest_inside : (message : List ℕ) (i : AllInside message sets senses) (n r : ℕ) (more : List ℕ) → r ≤ end → Inside r end (go message n r more) = λ message i n r more hi.

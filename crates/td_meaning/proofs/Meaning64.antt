@@ -4,7 +4,7 @@ use Rattle.std.proofs.Common.{◌≡◌, ℕ, zero, suc, ◌≤◌, min, ℤ, po
 use Rattle.std.proofs.lemmas.Bool.{ltb-true, ltb-false}
 use Rattle.std.specs.Prelude.{◌-ℤ◌, slice_get, slice_index, slice_set, nat_eq}
 use Rattle.td_num.specs.Numbers.{places_from}
-use Rattle.td_meaning.specs.Imports.{Scalar, ThirtyTwo, NameId, Element, Number, Listed, Named, Unit as UnitElement, Rest, Zeros, CopyOut, Extent, Once, Filling, OnceFilling, UpToZero, Part, Field, Body, Struct, Casetype, TypeDef, Module, Entry, Constraint, ListSize}
+use Rattle.td_meaning.specs.Imports.{Scalar, ThirtyTwo, NameId, Element, Number, Listed, Named, Unit as UnitElement, Rest, Zeros, CopyOut, Extent, Once, Filling, OnceFilling, UpToZero, Given, Source, Expression, FromCell, Left, Part, Field, Body, Struct, Casetype, TypeDef, Module, Entry, Constraint, ListSize}
 use Rattle.td_core.specs.Types.{wider, type_of}
 use Rattle.td_core.specs.Term.{Term, Deed, done, set, keep, fork, answer, give_up}
 use Rattle.td_core.specs.Outcome.{Ending, Accepted, Rejected, Behavior, accepted, after_reading, onward, and_then, within}
@@ -13,10 +13,10 @@ use Rattle.td_expr.specs.Sound.{FitsScalar, Sound}
 use Rattle.td_meaning.specs.Doing.{Effect, On, Returned, Aborted, after, either_way, natural_of, is_true}
 use Rattle.td_meaning.specs.Doing as whole
 use Rattle.td_meaning.specs.Naming.{is_needed}
-use Rattle.td_meaning.specs.Meaning.{Sense, taken, demanded, elements, filled, filled_once, element_up_to_zero, divides, equals, ended, refined, field_place, field_number, number_places, first_name, extended, case_for, where_place, pick, entry_place, with_copy}
+use Rattle.td_meaning.specs.Meaning.{Sense, taken, demanded, elements, filled, filled_once, element_up_to_zero, divides, equals, ended, refined, field_place, number_places, first_name, extended, case_for, where_place, pick, entry_place, with_copy}
 use Rattle.td_meaning.specs.Meaning as whole_of
-use Rattle.td_meaning.specs.Throughout.{Through, OnEnding, OnEffect, OnOption, OnAll, OnDeed, OnAction, OnParts, OnElement, OnElements, OnShape, OnContent, spare, OnFields, OnChosen, OnBody, OnDefinition, pick_through, through_below, Throughout}
-use Rattle.td_meaning.specs.Words64.{values, is_met, doing, acted, checked, with_part, parts_meaning, element_meaning, shape_meaning, copied_meaning, content_meaning, fields_meaning, body_fields, chosen_meaning, definition_meaning, below}
+use Rattle.td_meaning.specs.Throughout.{Through, OnEnding, OnEffect, OnOption, OnAll, OnDeed, OnAction, OnParts, OnElement, OnElements, OnSource, OnShape, OnContent, spare, OnFields, OnChosen, OnBody, OnDefinition, pick_through, through_below, Throughout}
+use Rattle.td_meaning.specs.Words64.{values, is_met, doing, acted, checked, with_part, parts_meaning, element_meaning, shape_meaning, copied_meaning, content_meaning, given_value, field_number, fields_meaning, body_fields, chosen_meaning, definition_meaning, below}
 use Rattle.td_meaning.proofs.Ending.{on_map, on_within}
 use Rattle.td_meaning.proofs.Values64.{natural_is, truth_is}
 use Rattle.td_num.proofs.Equals.{minus_under}
@@ -171,6 +171,7 @@ module _ (sets : List (List ℕ)) (senses means : ℕ → Sense) (throughs : ℕ
       (on_map (d c).ending (through q) (λ b e. and_then (each q b e) (rest q) ≡ and_then (means' q b e) (rest q)) k
       (λ b e o. ap (λ x. and_then x (rest q)) (element_is el env places message p q b e o)))))
   shape_is el (UpToZero size) env places message end p cells h = λ i. element_up_to_zero el (natural_is size env h i) message end p cells
+  shape_is el (Given source) env places message end p cells h = refl
 
   content_is : (el : Element) (extent : Extent) (copy : Option CopyOut) (env places message : List ℕ) (end p : ℕ) (cells : List ℕ) → OnContent Sound sets means throughs el extent copy env places message end p cells
       → content_meaning sets senses el extent copy env places message end p cells ≡ whole_of.content_meaning sets means el extent copy env places message end p cells
@@ -183,20 +184,64 @@ module _ (sets : List (List ℕ)) (senses means : ℕ → Sense) (throughs : ℕ
   content_is el Once (Some c) env places message end p cells h = shape_is el Once env places message end p cells h
   content_is el (OnceFilling size step) (Some c) env places message end p cells h = shape_is el (OnceFilling size step) env places message end p cells h
   content_is el (UpToZero size) (Some c) env places message end p cells h = shape_is el (UpToZero size) env places message end p cells h
+  content_is el (Given source) (Some c) env places message end p cells h = shape_is el (Given source) env places message end p cells h
+
+  given_is : (source : Source) (env places : List ℕ) (end p : ℕ) (cells : List ℕ) → OnSource Sound source env → given_value source env places end p cells ≡ whole_of.given_value source env places end p cells
+  given_is (Expression span e) env places end p cells h = natural_is e env h
+  given_is (FromCell cell) env places end p cells h = refl
+  given_is Left env places end p cells h = refl
+
+  -- the number of a field
+  number_is : (el : Element) (extent : Extent) (env places message : List ℕ) (end p : ℕ) (cells : List ℕ) → OnShape Sound sets means throughs el extent env places message end p cells
+      → field_number el extent env places message end p cells ≡ whole_of.field_number el extent env places message end p cells
+  number_is (Number type) Once env places message end p cells h = refl
+  number_is (Number type) (Filling size step) env places message end p cells h = refl
+  number_is (Number type) (OnceFilling size step) env places message end p cells h = refl
+  number_is (Number type) (UpToZero size) env places message end p cells h = refl
+  number_is (Number type) (Given source) env places message end p cells h = given_is source env places end p cells h
+  number_is (Listed base k) Once env places message end p cells h = refl
+  number_is (Listed base k) (Filling size step) env places message end p cells h = refl
+  number_is (Listed base k) (OnceFilling size step) env places message end p cells h = refl
+  number_is (Listed base k) (UpToZero size) env places message end p cells h = refl
+  number_is (Listed base k) (Given source) env places message end p cells h = refl
+  number_is (Named j args own) extent env places message end p cells h = refl
+  number_is UnitElement extent env places message end p cells h = refl
+  number_is Rest extent env places message end p cells h = refl
+  number_is Zeros extent env places message end p cells h = refl
+
+  filling_is : (el : Element) (size : Term) (step : Option ℕ) (env places message : List ℕ) (end p : ℕ) (cells : List ℕ)
+      → field_number el (Filling size step) env places message end p cells ≡ whole_of.field_number el (Filling size step) env places message end p cells
+  filling_is (Number type) size step env places message end p cells = refl
+  filling_is (Listed base k) size step env places message end p cells = refl
+  filling_is (Named j args own) size step env places message end p cells = refl
+  filling_is UnitElement size step env places message end p cells = refl
+  filling_is Rest size step env places message end p cells = refl
+  filling_is Zeros size step env places message end p cells = refl
+
+  content_number_is : (el : Element) (extent : Extent) (copy : Option CopyOut) (env places message : List ℕ) (end p : ℕ) (cells : List ℕ) → OnContent Sound sets means throughs el extent copy env places message end p cells
+      → field_number el extent env places message end p cells ≡ whole_of.field_number el extent env places message end p cells
+  content_number_is el extent None env places message end p cells h = number_is el extent env places message end p cells h
+  content_number_is el (Filling size step) (Some c) env places message end p cells h = filling_is el size step env places message end p cells
+  content_number_is el Once (Some c) env places message end p cells h = number_is el Once env places message end p cells h
+  content_number_is el (OnceFilling size step) (Some c) env places message end p cells h = number_is el (OnceFilling size step) env places message end p cells h
+  content_number_is el (UpToZero size) (Some c) env places message end p cells h = number_is el (UpToZero size) env places message end p cells h
+  content_number_is el (Given source) (Some c) env places message end p cells h = number_is el (Given source) env places message end p cells h
 
   fields_is : (ty : NameId) (fs : List Field) (env places message : List ℕ) (end p : ℕ) (cells : List ℕ) → OnFields Sound sets means throughs ty fs env places message end p cells → fields_meaning sets senses ty fs env places message end p cells ≡ whole_of.fields_meaning sets means ty fs env places message end p cells
   unfolding fields_meaning whole_of.fields_meaning
   fields_is ty [] env places message end p cells h = refl
   fields_is ty (f ∷ later) env places message end p cells h =
-      let n = field_number f.element f.extent message p in
+      let n = whole_of.field_number f.element f.extent env places message end p cells in
       let env1 = extended env n f.parts in
       let reads = number_places (is_needed (length env) f.parts later) f.element f.extent p in
       let place = field_place ty (first_name f.parts) p in
       let u = whole_of.content_meaning sets means f.element f.extent f.copy env places message end p cells in
-      let go = λ (q : ℕ) (c : List ℕ). after_reading reads (and_then (parts_meaning ty p n f.parts env places q c) (fields_meaning sets senses ty later env1 places message end)) in
+      let go_on = λ (k q : ℕ) (c : List ℕ). after_reading reads (and_then (parts_meaning ty p k f.parts env places q c) (fields_meaning sets senses ty later (extended env k f.parts) places message end)) in
+      let go = go_on n in
       let next = λ (q : ℕ) (c : List ℕ). after_reading reads (and_then (whole_of.parts_meaning ty p n f.parts env places q c) (whole_of.fields_meaning sets means ty later env1 places message end)) in
       let On = λ (q : ℕ) (c : List ℕ). OnParts Sound p n f.parts env places q c × OnEnding (whole_of.parts_meaning ty p n f.parts env places q c).ending (OnFields Sound sets means throughs ty later env1 places message end) in
-      and_then_is (within place (content_meaning sets senses f.element f.extent f.copy env places message end p cells)) (within place u) go next
+      ap (λ k. and_then (within place (content_meaning sets senses f.element f.extent f.copy env places message end p cells)) (go_on k)) (content_number_is f.element f.extent f.copy env places message end p cells h.0)
+      ∙ and_then_is (within place (content_meaning sets senses f.element f.extent f.copy env places message end p cells)) (within place u) go next
       (ap (within place) (content_is f.element f.extent f.copy env places message end p cells h.0))
       (on_within place u.ending (λ q c. go q c ≡ next q c) (on_map u.ending On (λ q c. go q c ≡ next q c) h.1
       (λ q c k.

@@ -6,7 +6,7 @@ use Rattle.std.proofs.lemmas.Option.{none-some, same_Some, slice_get_within}
 use Rattle.td_num.specs.Numbers.{bytes_in, number_at, places_from}
 use Rattle.td_num.specs.Lists.{Each, is_among, first_where}
 use Rattle.td_core.specs.Term.{Term, Deed}
-use Rattle.td_meaning.specs.Imports.{NameId, Element, Number, Listed, Named, Unit as UnitElement, Rest, Zeros, CopyOut, Extent, Once, Filling, OnceFilling, UpToZero, Part, Field as FieldDef, Case, Body, Struct, Casetype, TypeDef, Reason, NotEnough, Constraint, Impossible, ListSize, Action as ActionFails, TraceFrame}
+use Rattle.td_meaning.specs.Imports.{NameId, Element, Number, Listed, Named, Unit as UnitElement, Rest, Zeros, CopyOut, Extent, Once, Filling, OnceFilling, UpToZero, Given, Part, Field as FieldDef, Case, Body, Struct, Casetype, TypeDef, Reason, NotEnough, Constraint, Impossible, ListSize, Action as ActionFails, TraceFrame}
 use Rattle.td_core.specs.Outcome.{Behavior, FramePlace, Ending, Accepted, Rejected, accepted, rejected, and_then, onward, ending_within, frame_at, within, after_reading}
 use Rattle.td_core.specs.WellFormed.{OfSome, EachField, HasParts}
 use Rattle.td_meaning.specs.Doing.{Effect, On, Returned, Aborted, doing, natural_of, is_true}
@@ -139,6 +139,7 @@ module _ (ds : List TypeDef) where
         (λ r last. shown_then (each q r last).ending (each q r last).reads (λ t final. demanded ListSize (nat_eq t q) p t final) (element_shown element env places message p q r last)
         (λ t final. demanded_shown ListSize (nat_eq t q) p t final)))
     shape_shown element (UpToZero size) env places message end p cells = up_to_zero_shown element (natural_of size env) message end p cells
+    shape_shown element (Given source) env places message end p cells = tt
 
     content_shown : (element : Element) (extent : Extent) (copy : Option CopyOut) (env places message : List ℕ) (end p : ℕ) (cells : List ℕ) → Shown (content_meaning sets senses element extent copy env places message end p cells).ending
     content_shown element extent None env places message end p cells = shape_shown element extent env places message end p cells
@@ -149,6 +150,7 @@ module _ (ds : List TypeDef) where
     content_shown element Once (Some c) env places message end p cells = shape_shown element Once env places message end p cells
     content_shown element (OnceFilling size step) (Some c) env places message end p cells = shape_shown element (OnceFilling size step) env places message end p cells
     content_shown element (UpToZero size) (Some c) env places message end p cells = shape_shown element (UpToZero size) env places message end p cells
+    content_shown element (Given source) (Some c) env places message end p cells = shape_shown element (Given source) env places message end p cells
 
     parts_named : (start v : ℕ) (ps : List Part) (env places : List ℕ) (q : ℕ) (cells : List ℕ) → Each (λ part. IsBodyName part.name d.body) ps → AreNamed ds d (parts_meaning d.name start v ps env places q cells).ending
     unfolding parts_meaning
@@ -174,7 +176,7 @@ module _ (ds : List TypeDef) where
     fields_named [] env places message end p cells h = tt
     fields_named (x ∷ later) env places message end p cells h =
         let shape = content_meaning sets senses x.element x.extent x.copy env places message end p cells in
-        let v = field_number x.element x.extent message p in
+        let v = field_number x.element x.extent env places message end p cells in
         named_then (within (field_place d.name (first_name x.parts) p) shape).ending shape.reads
         (λ q more. after_reading (number_places (is_needed (length env) x.parts later) x.element x.extent p)
         (and_then (parts_meaning d.name p v x.parts env places q more) (fields_meaning sets senses d.name later (extended env v x.parts) places message end)))

@@ -8,14 +8,14 @@ use Rattle.td_num.specs.Numbers.{bytes_in, number_at, places_from}
 use Rattle.td_num.specs.Lists.{Each, is_among}
 use Rattle.td_num.proofs.Lists.{each_taken}
 use Rattle.td_core.specs.Term.{Term, Deed, done, set, keep, fork, answer, give_up}
-use Rattle.td_meaning.specs.Imports.{NameId, Element, Number, Listed, Named, Unit as UnitElement, Rest, Zeros, Extent, Once, Filling, OnceFilling, UpToZero, CopyOut, Buffer, Part, Field, Body, Struct, Casetype, TypeDef, Reason, Constraint, Impossible, ListSize, NotEnough}
+use Rattle.td_meaning.specs.Imports.{NameId, Element, Number, Listed, Named, Unit as UnitElement, Rest, Zeros, Extent, Once, Filling, OnceFilling, UpToZero, Given as GivenExtent, CopyOut, Buffer, Part, Field, Body, Struct, Casetype, TypeDef, Reason, Constraint, Impossible, ListSize, NotEnough}
 use Rattle.td_core.specs.Outcome.{Behavior, FramePlace, Ending, Accepted, Rejected, accepted, rejected, and_then, onward, within, after_reading}
 use Rattle.td_core.specs.WellFormed.{OfSome, EachField}
 use Rattle.td_core.specs.Copies.{IsCopyWhole, AreBuffersGiven, AreOwnGiven, IsElementGiven, NamesCells}
 use Rattle.td_meaning.specs.Doing.{Effect, On, Returned, Aborted, after, either_way}
 use Rattle.td_meaning.specs.Naming.{is_needed}
-use Rattle.td_meaning.specs.Meaning.{Sense, values_of, taken, demanded, zeros_end, zeros_meaning, elements, divides, equals, element_up_to_zero, with_copy, ended, bits_of, field_number, number_places, extended, field_place, where_place, switch_place, first_name, pick}
-use Rattle.td_meaning.specs.Words64.{value_of, is_truth, is_met, values, doing, acted, checked, with_part, parts_meaning, listed_meaning, element_meaning, shape_meaning, copied_meaning, content_meaning, fields_meaning, body_fields, chosen_meaning, definition_meaning, below}
+use Rattle.td_meaning.specs.Meaning.{Sense, values_of, taken, demanded, zeros_end, zeros_meaning, elements, divides, equals, element_up_to_zero, with_copy, ended, bits_of, number_places, extended, field_place, where_place, switch_place, first_name, pick}
+use Rattle.td_meaning.specs.Words64.{value_of, is_truth, is_met, values, doing, acted, checked, with_part, parts_meaning, listed_meaning, element_meaning, shape_meaning, copied_meaning, content_meaning, field_number, fields_meaning, body_fields, chosen_meaning, definition_meaning, below}
 use Rattle.td_meaning.specs.Copies.{cells_of}
 use Rattle.td_meaning.proofs.CopiesKept.{IsMapWhole, IsFieldKept, count_in, same_cells, demanded_cells, index_map, zero_kept, case_kept}
 
@@ -289,6 +289,7 @@ module _ (first : ℕ) (rooms : List ℕ) where
           (λ x last u. kept_then (each q x last) (λ t cells. demanded ListSize (nat_eq t q) p t cells) (element_kept element env p q x last g w u)
           (λ t final v. kept_demanded ListSize (nat_eq t q) p t final v)))
       shape_kept element (UpToZero size) env end p cells g w r = up_to_zero_kept element (value_of size env) message end p cells r
+      shape_kept element (GivenExtent source) env end p cells g w r = kept_same cells (accepted p cells) refl r
 
       copied_kept : (f : Field) (c : CopyOut) (n end p : ℕ) (cells : List ℕ) → IsCopyWhole d f c → Roomy cells → Kept (copied_meaning c places n end p cells)
       copied_kept f c n end p cells whole r =
@@ -308,12 +309,13 @@ module _ (first : ℕ) (rooms : List ℕ) where
       content_kept f Once (Some c) env end p cells h whole r = shape_kept f.element Once env end p cells h.copying.element h.map_whole r
       content_kept f (OnceFilling size step) (Some c) env end p cells h whole r = shape_kept f.element (OnceFilling size step) env end p cells h.copying.element h.map_whole r
       content_kept f (UpToZero size) (Some c) env end p cells h whole r = shape_kept f.element (UpToZero size) env end p cells h.copying.element h.map_whole r
+      content_kept f (GivenExtent source) (Some c) env end p cells h whole r = shape_kept f.element (GivenExtent source) env end p cells h.copying.element h.map_whole r
 
       fields_kept : (ty : NameId) (fs : List Field) (env : List ℕ) (end p : ℕ) (cells : List ℕ) → Each (IsFieldKept ds d) fs → Roomy cells → Kept (fields_meaning sets senses ty fs env places message end p cells)
       unfolding fields_meaning
       fields_kept ty [] env end p cells h r = kept_same cells (accepted p cells) refl r
       fields_kept ty (f ∷ later) env end p cells h r =
-          let v = field_number f.element f.extent message p in
+          let v = field_number f.element f.extent env places message end p cells in
           let content = content_meaning sets senses f.element f.extent f.copy env places message end p cells in
           let reads = number_places (is_needed (length env) f.parts later) f.element f.extent p in
           let rest = λ (q : ℕ) (cells : List ℕ). and_then (parts_meaning ty p v f.parts env places q cells) (fields_meaning sets senses ty later (extended env v f.parts) places message end) in

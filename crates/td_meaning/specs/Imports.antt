@@ -14,11 +14,13 @@ pub use Rattle.td_core.specs.declared.module.Element.{Element}
 pub use Rattle.td_core.specs.declared.module.Element.TheVariants.{Listed, Named, Number, Rest, Unit, Zeros}
 pub use Rattle.td_core.specs.declared.module.Entry.{Entry}
 pub use Rattle.td_core.specs.declared.module.Extent.{Extent}
-pub use Rattle.td_core.specs.declared.module.Extent.TheVariants.{Filling, Once, OnceFilling, UpToZero}
+pub use Rattle.td_core.specs.declared.module.Extent.TheVariants.{Filling, Given, Once, OnceFilling, UpToZero}
 pub use Rattle.td_core.specs.declared.module.Field.{Field}
 pub use Rattle.td_core.specs.declared.module.Module.{Module}
 pub use Rattle.td_core.specs.declared.module.NameId.{NameId}
 pub use Rattle.td_core.specs.declared.module.Part.{Part}
+pub use Rattle.td_core.specs.declared.module.Source.{Source}
+pub use Rattle.td_core.specs.declared.module.Source.TheVariants.{Cell as FromCell, Expression, Left}
 pub use Rattle.td_core.specs.declared.module.TypeDef.{TypeDef}
 pub use Rattle.td_core.specs.declared.outcome.Outcome.{Outcome}
 pub use Rattle.td_core.specs.declared.outcome.Reason.{Reason}

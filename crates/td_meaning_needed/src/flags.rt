@@ -4,13 +4,13 @@
 ghost use Rattle.std.specs.Prelude.{◌≡◌, ℕ, ◌+◌, ◌++◌, ◌∷◌, ◌≤◌, ◌||◌, List, [], Bool, false, nat_eq, IfOk, OnErr, length, reverse};
 ghost use Rattle.td_core.specs.declared.module.Field.{Field};
 ghost use Rattle.td_expr.specs.Naming.{names, deed_names};
-ghost use Rattle.td_meaning.specs.Naming.{some_name, in_option, part_names, parts_name, element_names, extent_names, fields_name, is_needed};
+ghost use Rattle.td_meaning.specs.Naming.{some_name, in_option, part_names, parts_name, element_names, source_names, extent_names, fields_name, is_needed};
 ghost use Rattle.td_meaning_needed.specs.Needed.{Marked, AreMarks, levels_of, needed_list};
 
 use std::alloc::{AllocError, Global};
 use td_core::actions::{Action, ActionStep};
 use td_core::expressions::{CoreExpr, Node};
-use td_core::module::{Element, Extent, Field, Part};
+use td_core::module::{Element, Extent, Field, Part, Source};
 use td_expr::naming::action_names;
 
 // Marks a level, where it has a mark.
@@ -135,7 +135,18 @@ fn mark_element(element: &Element, marks: &mut [bool])
     }
 }
 
-// Marks what a size names.
+// Marks what the expression names that gives a field without bytes its number.
+fn mark_source(source: &Source, marks: &mut [bool])
+    ensures { Marked marks.old marks.new (λ i. source_names i source.now) }
+{
+    match source {
+        Source::Expression { value, .. } => mark_expression(value, marks),
+        Source::Cell(_) => {}
+        Source::Left => {}
+    }
+}
+
+// Marks what a size names, or what a number comes from.
 fn mark_extent(extent: &Extent, marks: &mut [bool])
     ensures { Marked marks.old marks.new (λ i. extent_names i extent.now) }
 {
@@ -144,6 +155,7 @@ fn mark_extent(extent: &Extent, marks: &mut [bool])
         Extent::Filling { size, .. } => mark_expression(size, marks),
         Extent::OnceFilling { size, .. } => mark_expression(size, marks),
         Extent::UpToZero { size } => mark_expression(size, marks),
+        Extent::Given(source) => mark_source(source, marks),
     }
 }
 

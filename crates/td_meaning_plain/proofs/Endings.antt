@@ -14,8 +14,8 @@ use Rattle.td_core.specs.declared.outcome.Verdict.{Verdict}
 use Rattle.td_core.specs.declared.outcome.Verdict.TheVariants.{Accept, Reject}
 use Rattle.td_core.specs.Outcome.{Ending, Accepted, Rejected, Behavior, plain, accepted, after_reading, onward, and_then, ending_within, within}
 use Rattle.td_meaning.specs.Naming.{is_needed}
-use Rattle.td_meaning.specs.Meaning.{Sense, demanded, elements, field_place, field_number, number_places, first_name, extended, entry_place, numbers_at, run_of, is_nonzero, byte_type, zeros_end, zeros_meaning}
-use Rattle.td_meaning.specs.Words64.{below, fields_meaning, content_meaning, parts_meaning}
+use Rattle.td_meaning.specs.Meaning.{Sense, demanded, elements, field_place, number_places, first_name, extended, entry_place, numbers_at, run_of, is_nonzero, byte_type, zeros_end, zeros_meaning}
+use Rattle.td_meaning.specs.Words64.{below, fields_meaning, content_meaning, parts_meaning, field_number}
 use Rattle.td_meaning.proofs.Meaning64.{meaning}
 use Rattle.td_meaning.specs.Verdicts.{ending_of, IsAt}
 
@@ -39,10 +39,10 @@ then_same (Accept pos) trace cells go next h = ap (after_reading []) (h pos refl
 then_same (Reject reason pos) trace cells go next h = refl
 
 -- a field, by how its bytes end
-pub field_by : (sets : List (List ℕ)) (senses : ℕ → Sense) (ty : NameId) (f : Field) (later : List Field) (env places b : List ℕ) (end p : ℕ) (cells : List ℕ) (o : Ending) → ending_within (field_place ty (first_name f.parts) p) (content_meaning sets senses f.element f.extent f.copy env places b end p cells).ending ≡ o → (fields_meaning sets senses ty (f ∷ later) env places b end p cells).ending ≡ (and_then (plain o) (λ q cells. and_then (parts_meaning ty p (field_number f.element f.extent b p) f.parts env places q cells) (fields_meaning sets senses ty later (extended env (field_number f.element f.extent b p) f.parts) places b end))).ending
+pub field_by : (sets : List (List ℕ)) (senses : ℕ → Sense) (ty : NameId) (f : Field) (later : List Field) (env places b : List ℕ) (end p : ℕ) (cells : List ℕ) (o : Ending) → ending_within (field_place ty (first_name f.parts) p) (content_meaning sets senses f.element f.extent f.copy env places b end p cells).ending ≡ o → (fields_meaning sets senses ty (f ∷ later) env places b end p cells).ending ≡ (and_then (plain o) (λ q more. and_then (parts_meaning ty p (field_number f.element f.extent env places b end p cells) f.parts env places q more) (fields_meaning sets senses ty later (extended env (field_number f.element f.extent env places b end p cells) f.parts) places b end))).ending
 unfolding fields_meaning
 field_by sets senses ty f later env places b end p cells o e =
-    let rest = λ (q : ℕ) (cells : List ℕ). and_then (parts_meaning ty p (field_number f.element f.extent b p) f.parts env places q cells) (fields_meaning sets senses ty later (extended env (field_number f.element f.extent b p) f.parts) places b end) in
+    let rest = λ (q : ℕ) (more : List ℕ). and_then (parts_meaning ty p (field_number f.element f.extent env places b end p cells) f.parts env places q more) (fields_meaning sets senses ty later (extended env (field_number f.element f.extent env places b end p cells) f.parts) places b end) in
     let reads = number_places (is_needed (length env) f.parts later) f.element f.extent p in
     then_by (within (field_place ty (first_name f.parts) p) (content_meaning sets senses f.element f.extent f.copy env places b end p cells)) o (λ q cells. after_reading reads (rest q cells)) e
     ∙ unread o reads rest

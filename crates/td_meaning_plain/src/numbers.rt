@@ -3,11 +3,13 @@
 ghost use Rattle.std.specs.Prelude.{◌≡◌, ℕ, ◌+◌, ◌*◌, ◌<◌, ◌≤◌, ◌^◌, List, [], MatchOption, slice_index};
 ghost use Rattle.td_num.specs.Numbers.{number_at, rising_at, falling_on};
 ghost use Rattle.td_core.specs.Outcome.{Ending};
-ghost use Rattle.td_meaning.specs.Meaning.{taken, field_number};
+ghost use Rattle.td_meaning.specs.Meaning.{taken};
+ghost use Rattle.td_meaning.specs.Words64.{field_number};
 ghost use Rattle.td_meaning.specs.Verdicts.{ending_of};
 
 use td_core::module::{Element, Extent};
 use td_core::outcome::{Reason, Verdict};
+use td_meaning::given::given_value;
 use td_num::number::{ByteOrder, NumberType, byte_count};
 
 /// The byte at a place; 0 past the end.
@@ -56,9 +58,18 @@ pub fn number_at(number_type: NumberType, message: &[u8], start: u32) -> u64
     }
 }
 
-/// The number in a field; 0 where it is none.
-pub fn field_number(element: &Element, extent: &Extent, message: &[u8], start: u32) -> u64
-    ensures { result ≡ field_number element.now extent.now message.now start }
+/// The number in a field that begins at `start`, for the values in scope, and what the cells hold there; 0 where it is none.
+pub fn field_number(
+    element: &Element,
+    extent: &Extent,
+    env: &[u64],
+    places: &[usize],
+    message: &[u8],
+    end: u32,
+    start: u32,
+    cells: &[u64],
+) -> u64
+    ensures { result ≡ field_number element.now extent.now env.now places.now message.now end start cells.now }
 {
     match element {
         Element::Number(number_type) => match extent {
@@ -66,12 +77,14 @@ pub fn field_number(element: &Element, extent: &Extent, message: &[u8], start: u
             Extent::Filling { .. } => 0,
             Extent::OnceFilling { .. } => 0,
             Extent::UpToZero { .. } => 0,
+            Extent::Given(source) => given_value(source, env, places, end, start, cells),
         },
         Element::Listed { base, .. } => match extent {
             Extent::Once => number_at(*base, message, start),
             Extent::Filling { .. } => 0,
             Extent::OnceFilling { .. } => 0,
             Extent::UpToZero { .. } => 0,
+            Extent::Given(_) => 0,
         },
         Element::Named { .. } => 0,
         Element::Unit => 0,

@@ -3,7 +3,7 @@
 ghost use Rattle.std.specs.Prelude.{◌≡◌, ℕ, suc, ◌∷◌, ◌-◌, List, [], IfOk, Some};
 ghost use Rattle.td_core.specs.declared.module.Field.{Field};
 ghost use Rattle.td_core.specs.Outcome.{Ending, plain, and_then};
-ghost use Rattle.td_meaning.specs.Words64.{below, definition_meaning, fields_meaning, content_meaning, shape_meaning, element_meaning};
+ghost use Rattle.td_meaning.specs.Words64.{below, definition_meaning, fields_meaning, content_meaning, shape_meaning, element_meaning, field_number};
 ghost use Rattle.td_meaning.specs.Meaning.{elements, filled, filled_once};
 ghost use Rattle.td_meaning.specs.Verdicts.{ending_of};
 
@@ -161,6 +161,22 @@ fn fields_in_order(
     Ok(Verdict::Accept { pos: position })
 }
 
+// The number in a field, for the values in scope, and what the cells hold there; 0 where it is none.
+fn number_in(walk: &Walk<'_, '_, '_>, field: &Field, env: &[u64], start: u32, cells: &[u64]) -> u64
+    ensures { result ≡ field_number field.now.element field.now.extent env.now walk.now.places.now walk.now.message.now walk.now.end start cells.now }
+{
+    field_number(
+        &field.element,
+        &field.extent,
+        env,
+        walk.places,
+        walk.message,
+        walk.end,
+        start,
+        cells,
+    )
+}
+
 // A field, and then its parts.
 #[cycle(types)]
 fn one_field(
@@ -179,6 +195,7 @@ fn one_field(
     ensures empty_trace { IfOk result (λ v. (q : ℕ) → v ≡ Verdict.Accept q → slate.new.trace ≡ []) }
 {
     let parts = field.parts.as_slice();
+    let value = number_in(walk, field, env.as_slice(), start, slate.cells.as_slice());
     let verdict = content(walk, field, env.as_slice(), start, slate)?;
     match framed(
         verdict,
@@ -188,7 +205,6 @@ fn one_field(
         &mut slate.trace,
     )? {
         Verdict::Accept { pos } => {
-            let value = field_number(&field.element, &field.extent, walk.message, start);
             Ok(check_parts(
                 ty,
                 parts,
@@ -273,6 +289,7 @@ fn shape(
         Extent::UpToZero { size } => {
             Ok(up_to_zero(element, value_of(size, env), walk.message, walk.end, start))
         }
+        Extent::Given(_) => Ok(Verdict::Accept { pos: start }),
     }
 }
 

@@ -1,4 +1,4 @@
-//! What stands after a field's name: an array's size or a bit width.
+//! What stands after a field's name: an array's size, a bit width, or what gives a field without bytes its value.
 
 ghost use Rattle.std.specs.Prelude.{◌≡◌};
 ghost use Rattle.td_grammar.specs.Reading.{Got};
@@ -13,7 +13,7 @@ use td_ast::expressions::Expr;
 use td_ast::fields::ExtentTree;
 use td_ast::token::{Token, TokenKind};
 use td_parser_expr::failure::Failure;
-use td_parser_expr::token::{expect, literal, peek_is};
+use td_parser_expr::token::{expect, literal, name, peek_is};
 use td_parser_expr::whole::expression;
 
 // What opens an array part, expr and "]".
@@ -36,7 +36,21 @@ fn sized<'a>(
     }
 }
 
-/// An array part or a bit width.
+/// `"*" NAME | expr`, what gives a field without bytes its value.
+#[tactic(auto, unfolding(td_grammar::specs::Fields::source))]
+fn source(alloc: Global, tokens: &[Token]) -> Result<(ExtentTree, &[Token]), Failure<'_>>
+    ensures { Gives (λ x. Got x.0 x.1.now) result (fields.source.reader.read tokens.now) }
+{
+    if peek_is(tokens, &TokenKind::Star) {
+        let (star, rest) = expect(tokens, &TokenKind::Star)?;
+        let (cell, rest) = name(alloc, rest)?;
+        return Ok((ExtentTree::OfCell(star, cell), rest));
+    }
+    let (given, rest) = expression(alloc, tokens)?;
+    Ok((ExtentTree::Given(given), rest))
+}
+
+/// An array part, a bit width, or what gives a value.
 #[tactic(auto, unfolding(td_grammar::specs::Fields::extent))]
 fn extent(alloc: Global, tokens: &[Token]) -> Result<(ExtentTree, &[Token]), Failure<'_>>
     ensures { Gives (λ x. Got x.0 x.1.now) result (fields.extent.reader.read tokens.now) }
@@ -57,6 +71,10 @@ fn extent(alloc: Global, tokens: &[Token]) -> Result<(ExtentTree, &[Token]), Fai
         let (size, rest) = sized(alloc, tokens, &TokenKind::Zeroterm)?;
         return Ok((ExtentTree::Zeroterm(size), rest));
     }
+    if peek_is(tokens, &TokenKind::Assign) {
+        let (_, rest) = expect(tokens, &TokenKind::Assign)?;
+        return source(alloc, rest);
+    }
     let (_, rest) = expect(tokens, &TokenKind::Colon)?;
     let (width, rest) = literal(rest)?;
     Ok((ExtentTree::Bits(width), rest))
@@ -74,6 +92,7 @@ fn peek_is_extent(tokens: &[Token]) -> bool
                 | TokenKind::SingleElement
                 | TokenKind::Zeroterm
                 | TokenKind::Colon
+                | TokenKind::Assign
         ),
     }
 }

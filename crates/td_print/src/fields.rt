@@ -56,6 +56,8 @@ fn write_extent(out: &mut Printer, extent: &Option<ExtentTree>) -> Result<(), Al
             out.write(b" : ")?;
             out.write_number(width.value, width.base)
         }
+        Some(ExtentTree::Given(value)) => write_enclosed(out, b" = ", value, b""),
+        Some(ExtentTree::OfCell(_, cell)) => write_between(out, b" = *", cell, b""),
     }
 }
 

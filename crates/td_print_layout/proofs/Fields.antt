@@ -20,7 +20,9 @@ use Rattle.td_grammar.specs.Tokens.{terminal}
 use Rattle.td_grammar.specs.Expressions.{expr}
 use Rattle.td_grammar.specs.Actions.{action}
 use Rattle.td_grammar.specs.Parameters.{param, head}
-use Rattle.td_grammar.specs.Fields.{type_tree, extent, refinement, field}
+use Rattle.td_grammar.specs.Fields.{type_tree, source, extent, refinement, field}
+use Rattle.td_print_layout.specs.Pieces.{Word}
+use Rattle.td_print_layout.specs.Sequences.{name_piece}
 use Rattle.td_print_layout.specs.Expressions.{expression_pieces}
 use Rattle.td_print_layout.specs.Parameters.{parameter_pieces, condition_pieces, head_pieces}
 use Rattle.td_print_layout.specs.Fields.{type_pieces, extent_pieces, refinement_pieces, action_after, field_pieces, field_line}
@@ -64,13 +66,24 @@ kind_back s (types.Named text arguments) =
 type_back : (t : TypeTree) → Back type_tree.Spells (type_pieces t.kind) (λ r. unspanned_type r ≡ unspanned_type t)
 type_back t = kind_back t.span t.kind
 
+-- what stands behind `=`
+given_back : (e : Tree) → Back source.Spells (expression_pieces e) (λ r. unspanned_extent r ≡ unspanned_extent (extents.Given e))
+unfolding source
+given_back e = right (made (expression_back e) (λ x g. ap (λ (t : Tree). extents.Given t) g))
+
+cell_back : (s : Span) (c : Name) → Back source.Spells (Word kinds.Star ∷ name_piece c ∷ []) (λ r. unspanned_extent r ≡ unspanned_extent (extents.OfCell s c))
+unfolding source
+cell_back s c = left (made (both (terminal_back kinds.Star refl) (name_back c)) (λ x g. ap (λ (n : Name). extents.OfCell nowhere n) g.1))
+
 extent_back : (x : ExtentTree) → Back extent.Spells (extent_pieces x) (λ r. unspanned_extent r ≡ unspanned_extent x)
 unfolding extent
 extent_back (extents.Bytes e) = left (made (both (terminal_back kinds.OpenBracket refl) (both (expression_back e) (terminal_back kinds.CloseBracket refl))) (λ x g. ap (λ (t : Tree). extents.Bytes t) g.1.0))
 extent_back (extents.ByteSize e) = right (left (made (both (terminal_back kinds.ByteSize refl) (both (blank (expression_back e)) (terminal_back kinds.CloseBracket refl))) (λ x g. ap (λ (t : Tree). extents.ByteSize t) g.1.0)))
 extent_back (extents.SingleElement e) = right (right (left (made (both (terminal_back kinds.SingleElement refl) (both (blank (expression_back e)) (terminal_back kinds.CloseBracket refl))) (λ x g. ap (λ (t : Tree). extents.SingleElement t) g.1.0))))
 extent_back (extents.Zeroterm e) = right (right (right (left (made (both (terminal_back kinds.Zeroterm refl) (both (blank (expression_back e)) (terminal_back kinds.CloseBracket refl))) (λ x g. ap (λ (t : Tree). extents.Zeroterm t) g.1.0)))))
-extent_back (extents.Bits w) = right (right (right (right (made (both (blank (terminal_back kinds.Colon refl)) (blank (literal_back w))) (λ x g. ap (λ (l : Literal). extents.Bits l) g.1)))))
+extent_back (extents.Bits w) = right (right (right (right (left (made (both (blank (terminal_back kinds.Colon refl)) (blank (literal_back w))) (λ x g. ap (λ (l : Literal). extents.Bits l) g.1))))))
+extent_back (extents.Given e) = right (right (right (right (right (made (both (blank (terminal_back kinds.Assign refl)) (blank (given_back e))) (λ x g. g.1))))))
+extent_back (extents.OfCell s c) = right (right (right (right (right (made (both (blank (terminal_back kinds.Assign refl)) (blank (cell_back s c))) (λ x g. g.1))))))
 
 refinement_back : (e : Tree) → Back refinement.Spells (refinement_pieces e) (λ r. unspanned_expression r ≡ unspanned_expression e)
 unfolding refinement

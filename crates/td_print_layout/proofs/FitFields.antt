@@ -14,7 +14,7 @@ use Rattle.td_grammar.specs.Expressions.{expr}
 use Rattle.td_grammar.specs.Actions.{action}
 use Rattle.td_grammar.specs.Sequences.{in_parentheses, list_of, parted}
 use Rattle.td_grammar.specs.Parameters.{head}
-use Rattle.td_grammar.specs.Fields.{type_tree, extent, refinement, field}
+use Rattle.td_grammar.specs.Fields.{type_tree, source, extent, refinement, field}
 use Rattle.td_print_layout.proofs.Kept.{IfAny}
 use Rattle.td_print_layout.proofs.Light.{IsLight}
 use Rattle.td_print_layout.proofs.Sources.{NoPass, light}
@@ -65,6 +65,11 @@ type_fits t tokens (inr (inr (inr (inr (x, e, s))))) w =
     let v = other_side _ _ tokens (other_side _ _ tokens (other_side _ _ tokens (other_side _ _ tokens w))) in
     subst (λ (t : TypeTree). FitsType t.kind) e (arguments_fit x.1 s.1 s.4 (tail_of x.0 tokens s.0 s.1 s.2 s.3 v))
 
+source_fits : (x : ExtentTree) (tokens : List Token) → source.Spells x tokens → NoPass source.Passes tokens → FitsExtent x
+unfolding source
+source_fits a tokens (inl (x, e, s)) w = subst FitsExtent e tt
+source_fits a tokens (inr (x, e, s)) w = subst FitsExtent e (light x tokens s (other_side _ _ tokens w))
+
 extent_fits : (x : ExtentTree) (tokens : List Token) → extent.Spells x tokens → NoPass extent.Passes tokens → FitsExtent x
 unfolding extent
 extent_fits a tokens (inl (x, e, s)) w =
@@ -79,7 +84,10 @@ extent_fits a tokens (inr (inr (inl (x, e, s)))) w =
 extent_fits a tokens (inr (inr (inr (inl (x, e, s))))) w =
     let v = one_side _ _ tokens (other_side _ _ tokens (other_side _ _ tokens (other_side _ _ tokens w))) in
     subst FitsExtent e (light x.1.0 s.4.0 s.4.3 (head_of s.1 s.4.0 s.4.1 s.4.2 (tail_of x.0 tokens s.0 s.1 s.2 s.3 v)))
-extent_fits a tokens (inr (inr (inr (inr (x, e, s))))) w = subst FitsExtent e tt
+extent_fits a tokens (inr (inr (inr (inr (inl (x, e, s)))))) w = subst FitsExtent e tt
+extent_fits a tokens (inr (inr (inr (inr (inr (x, e, s)))))) w =
+    let v = other_side _ _ tokens (other_side _ _ tokens (other_side _ _ tokens (other_side _ _ tokens (other_side _ _ tokens w)))) in
+    subst FitsExtent e (source_fits x.1 s.1 s.4 (tail_of x.0 tokens s.0 s.1 s.2 s.3 v))
 
 refinement_fits : (a : Tree) (tokens : List Token) → refinement.Spells a tokens → NoPass refinement.Passes tokens → IsLight a
 unfolding refinement

@@ -11,7 +11,7 @@ use Rattle.td_grammar.specs.Sets.{member}
 use Rattle.td_grammar.specs.Grammar.{Grammar, ◌then◌, ◌making◌, maybe, all_of, ◌or◌, seen_as}
 use Rattle.td_grammar.specs.Reading.{Got}
 use Rattle.td_grammar.proofs.Sets.{disjoint, covered}
-use Rattle.td_grammar.proofs.Tools.{member_left, stops_left}
+use Rattle.td_grammar.proofs.Tools.{member_left, member_right, apart_at, stops_left, stops_right}
 use Rattle.td_grammar.proofs.Exact.{IsApart}
 use Rattle.td_grammar.proofs.Seen.{covers, stops_less}
 use Rattle.td_print_layout.specs.Pieces.{Piece, Blank, LineEnd, kinds_of}
@@ -97,6 +97,21 @@ first_clean g h solid a (t ∷ tokens) p b = λ rest stops.
 -- the first of two
 pub first : {A : Type 0} {g : Grammar A} {u : List Piece} {G : A → Type 0} (h : Grammar A) → Kept g u G → g.reader.may_be_empty ≡ false → Kept (g or h) u G
 first {g = g} h p solid = record { read = λ tokens e. let a = p.read tokens e in (a.0, first_clean g h solid a.0 tokens a.1 a.2, first_begun g h solid tokens a.2, a.3) }
+
+second_begun : {A : Type 0} (g h : Grammar A) → h.reader.may_be_empty ≡ false → (tokens : List Token) → Begun h tokens → Begun (g or h) tokens
+second_begun g h solid [] b = absurd (cc (b, solid))
+second_begun g h solid (t ∷ tokens) b = member_right g.reader.begins h.reader.begins (number_of_kind t.kind) b
+
+second_clean : {A : Type 0} (g h : Grammar A) → h.reader.may_be_empty ≡ false → disjoint h.reader.begins g.reader.begins ≡ true → (a : A) (tokens : List Token) → Clean h a tokens → Begun h tokens → Clean (g or h) a tokens
+second_clean g h solid apart a [] p b = absurd (cc (b, solid))
+second_clean g h solid apart a (t ∷ tokens) p b = λ rest stops.
+    let no : member g.reader.begins (number_of_kind t.kind) ≡ false = apart_at h.reader.begins g.reader.begins (number_of_kind t.kind) apart b in
+    let same : h.reader.read (t ∷ (tokens ++ rest)) ≡ Got a rest = p rest (stops_right g.reader.goes_on h.reader.goes_on rest stops) in
+    rw (no, same) refl
+
+-- the second of two
+pub second : {A : Type 0} {h : Grammar A} {u : List Piece} {G : A → Type 0} (g : Grammar A) → Kept h u G → h.reader.may_be_empty ≡ false → disjoint h.reader.begins g.reader.begins ≡ true → Kept (g or h) u G
+second {h = h} g p solid apart = record { read = λ tokens e. let a = p.read tokens e in (a.0, second_clean g h solid apart a.0 tokens a.1 a.2, second_begun g h solid tokens a.2, a.3) }
 
 seen_begun : {A : Type 0} (Spells : A → List Token → Type 0) (begins goes_on : List ℕ) (g : Grammar A) → g.reader.may_be_empty ≡ false → covered g.reader.begins begins ≡ true → (tokens : List Token) → Begun g tokens → Begun (seen_as Spells begins goes_on g) tokens
 seen_begun Spells begins goes_on g solid less [] b = absurd (cc (b, solid))

@@ -5,6 +5,7 @@ use Rattle.td_ast.specs.declared.token.Span.{Span}
 use Rattle.td_ast.specs.declared.token.TokenKind.TheVariants as kinds
 use Rattle.td_ast.specs.declared.names.NumberTree.{NumberTree}
 use Rattle.td_ast.specs.declared.names.Literal.{Literal}
+use Rattle.td_ast.specs.declared.names.Name.{Name}
 use Rattle.td_ast.specs.declared.parameters.ParamTree.{ParamTree}
 use Rattle.td_ast.specs.declared.parameters.HeadTree.{HeadTree}
 use Rattle.td_ast.specs.declared.fields.TypeKind.{TypeKind}
@@ -16,17 +17,17 @@ use Rattle.td_ast.specs.declared.fields.FieldTree.{FieldTree}
 use Rattle.td_ast.specs.Trees.{Tree}
 use Rattle.td_ast.specs.declared.actions.ActionTree.{ActionTree}
 use Rattle.td_grammar.specs.Grammar.{Grammar, ◌then◌, ◌making◌, all_of}
-use Rattle.td_grammar.specs.Tokens.{terminal}
+use Rattle.td_grammar.specs.Tokens.{terminal, name}
 use Rattle.td_grammar.specs.Expressions.{expr}
 use Rattle.td_grammar.specs.Actions.{action}
 use Rattle.td_grammar.specs.Sequences.{in_parentheses, list_of, parted}
 use Rattle.td_grammar.specs.Parameters.{param, head}
-use Rattle.td_grammar.specs.Fields.{type_tree, extent, refinement, field}
+use Rattle.td_grammar.specs.Fields.{type_tree, source, extent, refinement, field}
 use Rattle.td_grammar.proofs.Sets.{disjoint}
 use Rattle.td_grammar.proofs.Exact.{IsApart}
 use Rattle.td_grammar.proofs.Defs.{param_exact}
-use Rattle.td_print_layout.specs.Pieces.{Piece}
-use Rattle.td_print_layout.specs.Sequences.{comma}
+use Rattle.td_print_layout.specs.Pieces.{Piece, Word}
+use Rattle.td_print_layout.specs.Sequences.{comma, name_piece}
 use Rattle.td_print_layout.specs.Sequences as sequences
 use Rattle.td_print_layout.specs.Names.{before_dot}
 use Rattle.td_print_layout.specs.Expressions.{expression_pieces}
@@ -34,7 +35,7 @@ use Rattle.td_print_layout.specs.Parameters.{parameter_pieces, condition_pieces,
 use Rattle.td_print_layout.specs.Fields.{type_pieces, extent_pieces, refinement_pieces, action_after, field_pieces, field_line}
 use Rattle.td_print_layout.specs.Unspanned.{nowhere, unspanned_expression, unspanned_parameter, unspanned_head, unspanned_type, unspanned_extent, unspanned_action, unspanned_field}
 use Rattle.td_print_layout.proofs.Fields.{parameter_back}
-use Rattle.td_print_layout.proofs.Kept.{Kept, blank, deep, ended, both, made, none, some, into, each_kept, maybe_kept, IfAny}
+use Rattle.td_print_layout.proofs.Kept.{Kept, blank, deep, ended, both, made, none, some, second, into, each_kept, maybe_kept, IfAny}
 use Rattle.td_print_layout.proofs.Plainly.{plainly, never_one, never_both, never_either, never_qualified, terminal_kept, name_kept, qualified_kept, literal_kept, number_kept}
 use Rattle.td_print_layout.proofs.Light.{IsLight, expression_kept}
 use Rattle.td_print_layout.proofs.Bytes.{never_place}
@@ -52,6 +53,8 @@ FitsExtent (extents.ByteSize e) = IsLight e
 FitsExtent (extents.SingleElement e) = IsLight e
 FitsExtent (extents.Zeroterm e) = IsLight e
 FitsExtent (extents.Bits w) = Unit {0}
+FitsExtent (extents.Given e) = IsLight e
+FitsExtent (extents.OfCell s c) = Unit {0}
 
 pub record FitsField (f : FieldTree) : Type 0 where
   pub type : FitsType f.type_tree.kind
@@ -139,13 +142,24 @@ kind_kept s (types.Named text arguments) f =
 type_kept : (t : TypeTree) → FitsType t.kind → Kept type_tree (type_pieces t.kind) (λ r. unspanned_type r ≡ unspanned_type t)
 type_kept t f = kind_kept t.span t.kind f
 
+-- what stands behind `=`
+given_kept : (e : Tree) → IsLight e → Kept source (expression_pieces e) (λ r. unspanned_extent r ≡ unspanned_extent (extents.Given e))
+unfolding source expr
+given_kept e f = second ((terminal kinds.Star then name) making λ (star, cell). extents.OfCell star cell) (made extents.Given (expression_kept e f) (λ x g. ap (λ (t : Tree). extents.Given t) g)) refl refl
+
+cell_kept : (s : Span) (c : Name) → Kept source (Word kinds.Star ∷ name_piece c ∷ []) (λ r. unspanned_extent r ≡ unspanned_extent (extents.OfCell s c))
+unfolding source expr
+cell_kept s c = into source kinds.Star (made (λ (star, cell). extents.OfCell star cell) (both (terminal_kept kinds.Star refl) (name_kept c) refl) (λ x g. ap (λ (n : Name). extents.OfCell nowhere n) g.1)) refl (λ t ts e. rw e refl) refl refl
+
 extent_kept : (x : ExtentTree) → FitsExtent x → Kept extent (extent_pieces x) (λ r. unspanned_extent r ≡ unspanned_extent x)
-unfolding extent expr
+unfolding extent source expr
 extent_kept (extents.Bytes e) f = into extent kinds.OpenBracket (made (λ (opening, (size, closing)). extents.Bytes size) (both (terminal_kept kinds.OpenBracket refl) (both (expression_kept e f) (terminal_kept kinds.CloseBracket refl) refl) refl) (λ x g. ap (λ (t : Tree). extents.Bytes t) g.1.0)) refl (λ t ts e. rw e refl) refl refl
 extent_kept (extents.ByteSize e) f = into extent kinds.ByteSize (made (λ (opening, (size, closing)). extents.ByteSize size) (both (terminal_kept kinds.ByteSize refl) (both (blank (expression_kept e f)) (terminal_kept kinds.CloseBracket refl) refl) refl) (λ x g. ap (λ (t : Tree). extents.ByteSize t) g.1.0)) refl (λ t ts e. rw e refl) refl refl
 extent_kept (extents.SingleElement e) f = into extent kinds.SingleElement (made (λ (opening, (size, closing)). extents.SingleElement size) (both (terminal_kept kinds.SingleElement refl) (both (blank (expression_kept e f)) (terminal_kept kinds.CloseBracket refl) refl) refl) (λ x g. ap (λ (t : Tree). extents.SingleElement t) g.1.0)) refl (λ t ts e. rw e refl) refl refl
 extent_kept (extents.Zeroterm e) f = into extent kinds.Zeroterm (made (λ (opening, (size, closing)). extents.Zeroterm size) (both (terminal_kept kinds.Zeroterm refl) (both (blank (expression_kept e f)) (terminal_kept kinds.CloseBracket refl) refl) refl) (λ x g. ap (λ (t : Tree). extents.Zeroterm t) g.1.0)) refl (λ t ts e. rw e refl) refl refl
 extent_kept (extents.Bits w) f = into extent kinds.Colon (made (λ (colon, width). extents.Bits width) (both (blank (terminal_kept kinds.Colon refl)) (blank (literal_kept w)) refl) (λ x g. ap (λ (l : Literal). extents.Bits l) g.1)) refl (λ t ts e. rw e refl) refl refl
+extent_kept (extents.Given e) f = into extent kinds.Assign (made (λ (assign, given). given) (both (blank (terminal_kept kinds.Assign refl)) (blank (given_kept e f)) refl) (λ x g. g.1)) refl (λ t ts e. rw e refl) refl refl
+extent_kept (extents.OfCell s c) f = into extent kinds.Assign (made (λ (assign, given). given) (both (blank (terminal_kept kinds.Assign refl)) (blank (cell_kept s c)) refl) (λ x g. g.1)) refl (λ t ts e. rw e refl) refl refl
 
 refinement_kept : (e : Tree) → IsLight e → Kept refinement (refinement_pieces e) (λ r. unspanned_expression r ≡ unspanned_expression e)
 unfolding refinement expr
@@ -157,7 +171,7 @@ action_after_kept : (a : ActionTree) → FitsAction a → Kept action (action_af
 action_after_kept a f = blank (action_kept a f)
 
 pub field_kept : (f : FieldTree) → FitsField f → Kept field (field_pieces f) (λ r. unspanned_field r ≡ unspanned_field f)
-unfolding field type_tree extent refinement action expr
+unfolding field type_tree extent source refinement action expr
 field_kept x f =
     made _ (both (type_kept x.type_tree f.type) (both (blank (name_kept x.name)) (both (maybe_kept extent refl extent_pieces unspanned_extent FitsExtent extent_kept x.extent f.extent)
     (both (maybe_kept refinement refl refinement_pieces unspanned_expression IsLight refinement_kept x.refinement f.refinement)

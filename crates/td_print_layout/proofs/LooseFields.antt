@@ -90,6 +90,10 @@ extent_closes (Some (extents.Zeroterm size)) after closes =
     (before_sign kinds.Zeroterm (Blank ∷ (expression_pieces size ++ Word kinds.CloseBracket ∷ after)) refl refl refl refl refl refl (refl, size_loose size after closes))
 extent_closes (Some (extents.Bits width)) after closes =
     before_blank (Word kinds.Colon ∷ Blank ∷ Word (kinds.Number width.value width.base) ∷ after) (refl, (closes.words (kinds.Number width.value width.base) refl, closes.loose))
+extent_closes (Some (extents.Given value)) after closes =
+    before_blank (Word kinds.Assign ∷ Blank ∷ (expression_pieces value ++ after)) (refl, expression_loose value after closes)
+extent_closes (Some (extents.OfCell star cell)) after closes =
+    before_blank (Word kinds.Assign ∷ Blank ∷ Word kinds.Star ∷ name_piece cell ∷ after) (refl, (refl, (closes.words (kinds.Name cell.text) refl, closes.loose)))
 
 refinement_closes : (refinement : Option Tree) (after : List Piece) → Closes after → Closes (optional refinement_pieces refinement ++ after)
 refinement_closes None after closes = closes

@@ -164,6 +164,8 @@ extent_same (extents.ByteSize e) = cc (expression_same e)
 extent_same (extents.SingleElement e) = cc (expression_same e)
 extent_same (extents.Zeroterm e) = cc (expression_same e)
 extent_same (extents.Bits w) = refl
+extent_same (extents.Given e) = cc (expression_same e)
+extent_same (extents.OfCell s c) = refl
 
 refinement_same : (e : Tree) → refinement_pieces (unspanned_expression e) ≡ refinement_pieces e
 refinement_same e = cc (expression_same e)

@@ -6,7 +6,7 @@ use Rattle.td_grammar.specs.Grammar.{Grammar}
 use Rattle.td_grammar.specs.Expressions.{expr}
 use Rattle.td_grammar.specs.Sequences.{some_of, parted, in_parentheses, list_of}
 use Rattle.td_grammar.specs.Parameters.{param, head}
-use Rattle.td_grammar.specs.Fields.{type_tree, extent, refinement, field}
+use Rattle.td_grammar.specs.Fields.{type_tree, source, extent, refinement, field}
 use Rattle.td_print_layout.specs.Pieces.{Piece, Word}
 use Rattle.td_print_layout.specs.Sequences.{comma, parted_by}
 use Rattle.td_print_layout.specs.Sequences as sequences
@@ -62,6 +62,10 @@ type_sound =
     either (made number_sound (λ x h. h)) (either (made (terminal_sound kinds.Unit tt) (λ x h. h)) (either (made (terminal_sound kinds.AllBytes tt) (λ x h. h)) (either (made (terminal_sound kinds.AllZeros tt) (λ x h. h))
     (made (both qualified_sound (parentheses_sound expr expression_pieces expression_sound)) (λ x h. h)))))
 
+source_sound : Sound source.Spells extent_pieces
+unfolding source
+source_sound = either (made (both (terminal_sound kinds.Star tt) name_sound) (λ x h. (tt, h))) (made expression_sound (λ x h. (tt, h)))
+
 extent_sound : Sound extent.Spells extent_pieces
 unfolding extent
 extent_sound =
@@ -69,7 +73,8 @@ extent_sound =
     (either (made (both (terminal_sound kinds.ByteSize tt) (both (blank expression_sound) (terminal_sound kinds.CloseBracket tt))) (λ x h. h))
     (either (made (both (terminal_sound kinds.SingleElement tt) (both (blank expression_sound) (terminal_sound kinds.CloseBracket tt))) (λ x h. h))
     (either (made (both (terminal_sound kinds.Zeroterm tt) (both (blank expression_sound) (terminal_sound kinds.CloseBracket tt))) (λ x h. h))
-    (made (both (blank (terminal_sound kinds.Colon tt)) (blank literal_sound)) (λ x h. h)))))
+    (either (made (both (blank (terminal_sound kinds.Colon tt)) (blank literal_sound)) (λ x h. h))
+    (made (both (terminal_sound kinds.Assign tt) source_sound) (λ x h. h.1))))))
 
 refinement_sound : Sound refinement.Spells refinement_pieces
 unfolding refinement

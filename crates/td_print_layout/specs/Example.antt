@@ -97,6 +97,24 @@ third = record {
   action = Some (Copied nowhere (named (codes "c")));
 }
 
+abbrev fourth : FieldTree
+fourth = record {
+  type_tree = record { span = nowhere; kind = types.Number word };
+  name = named (codes "e");
+  extent = Some (extents.Given (binary operators.Add (value (codes "a")) (number 1)));
+  refinement = Some (binary operators.Less (value (codes "e")) (number 9));
+  action = None;
+}
+
+abbrev fifth : FieldTree
+fifth = record {
+  type_tree = record { span = nowhere; kind = types.Number byte };
+  name = named (codes "f");
+  extent = Some (extents.OfCell nowhere (named (codes "p")));
+  refinement = None;
+  action = None;
+}
+
 abbrev structure : Def
 structure =
     defs.Struct (record {
@@ -104,10 +122,11 @@ structure =
       tag = named (codes "_S");
       head = record {
         params = params.Value (plains.Number (record { number = byte; span = nowhere })) (named (codes "n")) ∷ params.Mutable (targets.Named (named (codes "O"))) (named (codes "r"))
-            ∷ params.Bytes (named (codes "c")) (constants.Named (named (codes "K"))) ∷ [];
+            ∷ params.Bytes (named (codes "c")) (constants.Named (named (codes "K")))
+            ∷ params.Mutable (targets.Number (record { number = byte; span = nowhere })) (named (codes "p")) ∷ [];
         condition = Some (binary operators.Less (value (codes "n")) (number 9));
       };
-      fields = first ∷ second ∷ third ∷ [];
+      fields = first ∷ second ∷ third ∷ fourth ∷ fifth ∷ [];
       name = named (codes "S");
     })
 
@@ -129,10 +148,12 @@ WorkedText =
     ∷ codes "    B"
     ∷ codes "}"
     ∷ codes ""
-    ∷ codes "entrypoint typedef struct _S(UINT8 n, mutable O *r, mutable UINT8 *c[K]) where n < 9 {"
+    ∷ codes "entrypoint typedef struct _S(UINT8 n, mutable O *r, mutable UINT8 *c[K], mutable UINT8 *p) where n < 9 {"
     ∷ codes "    UINT8 a { (a + 1) * (n - (a - 1)) == !(a << 2) } {:act};"
     ∷ codes "    T(n, r) b[:byte-size n] {:check r->F = field_ptr; if (a) { } else { return true; }};"
     ∷ codes "    UINT8 d[n] {:copy c};"
+    ∷ codes "    UINT16BE e = a + 1 { e < 9 };"
+    ∷ codes "    UINT8 f = *p;"
     ∷ codes "} S;"
     ∷ []
     )

@@ -22,13 +22,15 @@ type_pieces types.AllBytes = Word kinds.AllBytes ∷ []
 type_pieces types.AllZeros = Word kinds.AllZeros ∷ []
 type_pieces (types.Named text arguments) = qualified_pieces text ++ in_parentheses expression_pieces arguments
 
--- `[e]`, `[:byte-size e]` and the like, ` : 4`
+-- `[e]`, `[:byte-size e]` and the like, ` : 4`, ` = e`, ` = *p`
 abbrev pub extent_pieces : ExtentTree → List Piece
 extent_pieces (extents.Bytes size) = Word kinds.OpenBracket ∷ (expression_pieces size ++ Word kinds.CloseBracket ∷ [])
 extent_pieces (extents.ByteSize size) = Word kinds.ByteSize ∷ Blank ∷ (expression_pieces size ++ Word kinds.CloseBracket ∷ [])
 extent_pieces (extents.SingleElement size) = Word kinds.SingleElement ∷ Blank ∷ (expression_pieces size ++ Word kinds.CloseBracket ∷ [])
 extent_pieces (extents.Zeroterm size) = Word kinds.Zeroterm ∷ Blank ∷ (expression_pieces size ++ Word kinds.CloseBracket ∷ [])
 extent_pieces (extents.Bits width) = Blank ∷ Word kinds.Colon ∷ Blank ∷ literal_piece width ∷ []
+extent_pieces (extents.Given value) = Blank ∷ Word kinds.Assign ∷ Blank ∷ expression_pieces value
+extent_pieces (extents.OfCell star cell) = Blank ∷ Word kinds.Assign ∷ Blank ∷ Word kinds.Star ∷ name_piece cell ∷ []
 
 -- ` { e }`
 abbrev pub refinement_pieces : Tree → List Piece

@@ -137,6 +137,8 @@ unspanned_extent (extents.ByteSize size) = extents.ByteSize (unspanned_expressio
 unspanned_extent (extents.SingleElement size) = extents.SingleElement (unspanned_expression size)
 unspanned_extent (extents.Zeroterm size) = extents.Zeroterm (unspanned_expression size)
 unspanned_extent (extents.Bits width) = extents.Bits (unspanned_literal width)
+unspanned_extent (extents.Given value) = extents.Given (unspanned_expression value)
+unspanned_extent (extents.OfCell star cell) = extents.OfCell nowhere (unspanned_name cell)
 
 abbrev pub unspanned_field : FieldTree → FieldTree
 unspanned_field field = record {

@@ -146,3 +146,4 @@ module _ (c : Parts) (n : ℕ) where
   statement (i.Set source cell) rest = Store cell (reg source) rest
   statement i.Mark rest = Assign Start (Get Pos) rest
   statement (i.Copy size buffer site) rest = copied size buffer site rest
+  statement (i.Left into) rest = Assign (Reg into) left rest

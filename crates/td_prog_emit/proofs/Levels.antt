@@ -124,6 +124,7 @@ module _ (c : Parts) (n : ℕ) (w : Block) where
   put_stands pc (i.Set source cell) x y bs t l = plain pc (i.Set source cell) x y bs t l
   put_stands pc i.Mark x y bs t l = plain pc i.Mark x y bs t l
   put_stands pc (i.Copy size buffer site) x y bs t l = plain pc (i.Copy size buffer site) x y bs t l
+  put_stands pc (i.Left into) x y bs t l = plain pc (i.Left into) x y bs t l
 
   level_at : (pc : ℕ) (j : Instr) (y : Bool) (bs : List Block) → AreLevel y bs → AreLevel y (stated c n pc j bs)
   level_at pc j false [] l = absurd l
@@ -178,6 +179,7 @@ module _ (c : Parts) (n : ℕ) (w : Block) where
   put_level pc (i.Set source cell) x y bs t l = plain_level pc (i.Set source cell) x y bs t l
   put_level pc i.Mark x y bs t l = plain_level pc i.Mark x y bs t l
   put_level pc (i.Copy size buffer site) x y bs t l = plain_level pc (i.Copy size buffer site) x y bs t l
+  put_level pc (i.Left into) x y bs t l = plain_level pc (i.Left into) x y bs t l
 
   abbrev Goes : ℕ → Instr → List Block → List Block → Type 0
   Goes l j before bs = gone l before ≡ is_among (targets j) l || gone l bs
@@ -222,3 +224,4 @@ module _ (c : Parts) (n : ℕ) (w : Block) where
   put_goes pc l (i.Set source cell) x y bs t h = plain_goes pc l (i.Set source cell) y bs h
   put_goes pc l i.Mark x y bs t h = plain_goes pc l i.Mark y bs h
   put_goes pc l (i.Copy size buffer site) x y bs t h = plain_goes pc l (i.Copy size buffer site) y bs h
+  put_goes pc l (i.Left into) x y bs t h = plain_goes pc l (i.Left into) y bs h

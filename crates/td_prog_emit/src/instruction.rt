@@ -17,8 +17,8 @@ use crate::bytes::{
 use crate::calls::push_call;
 use crate::copies::push_copy;
 use crate::kinds::{
-    push_bits, push_const, push_get, push_jump, push_jump_if, push_jump_unless, push_mark, push_op,
-    push_pos, push_rest, push_return, push_set,
+    push_bits, push_const, push_get, push_jump, push_jump_if, push_jump_unless, push_left,
+    push_mark, push_op, push_pos, push_rest, push_return, push_set,
 };
 use crate::sets::push_member;
 use std::alloc::AllocError;
@@ -90,6 +90,7 @@ pub fn push_instruction(
         Instr::Set { source, cell } => push_set(out, depth, source, cell),
         Instr::Mark => push_mark(out, depth),
         Instr::Copy { size, buffer, site } => push_copy(out, depth, parts, n, size, buffer, site),
+        Instr::Left { into } => push_left(out, depth, into),
         Instr::While { .. } | Instr::Again { .. } => Ok(()),
     }
 }

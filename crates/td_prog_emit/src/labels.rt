@@ -38,7 +38,8 @@ fn target_of(instruction: Instr) -> Option<u32>
         | Instr::Get { .. }
         | Instr::Set { .. }
         | Instr::Mark
-        | Instr::Copy { .. } => None,
+        | Instr::Copy { .. }
+        | Instr::Left { .. } => None,
     }
 }
 

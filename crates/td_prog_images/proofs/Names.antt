@@ -6,7 +6,8 @@ use Rattle.std.proofs.lemmas.Bool.{eqb-true}
 use Rattle.td_num.specs.Lists.{Each}
 use Rattle.td_num.specs.Text.{is_dot}
 use Rattle.td_lexer.specs.Spellings.{is_keyword}
-use Rattle.td_image.specs.declared.version.ImageVersion.TheVariants.{Third}
+use Rattle.td_image.specs.declared.version.ImageVersion.{ImageVersion}
+use Rattle.td_image.specs.Versions.{has_dots}
 use Rattle.td_image.specs.Names.{is_letter_or_digit, is_name, is_plain, are_two_names, is_image_name}
 use Rattle.td_image.specs.Names as images
 use Rattle.td_prog.specs.Names.{is_letter, is_digit, IsName}
@@ -69,11 +70,12 @@ joined (b ∷ bs) h k = by (is_dot b) refl h k (λ x y. joined bs x y)
         let back : Each IsFine (after_first is_dot bs) = subst (λ (n : ℕ). Each IsFine (drop n (b ∷ bs))) more k in
         (front.0, rest front.1 back)
 
-pub image_name : (name : List ℕ) → is_image_name Third name ≡ true → IsName name
-image_name name h = by (is_name name) refl h
+pub image_name : (version : ImageVersion) (name : List ℕ) → is_image_name version name ≡ true → IsName name
+image_name version name h = by (is_name name) refl h
   where
-    by : (t : Bool) → is_name name ≡ t → (t || are_two_names name) ≡ true → IsName name
+    by : (t : Bool) → is_name name ≡ t → (t || (has_dots version && are_two_names name)) ≡ true → IsName name
     by true e h = name_fine name e
     by false e h =
-        let both = and_parts (is_plain (before_first is_dot name)) (is_plain (after_first is_dot name)) h in
+        let two : are_two_names name ≡ true = (and_parts (has_dots version) (are_two_names name) h).1 in
+        let both = and_parts (is_plain (before_first is_dot name)) (is_plain (after_first is_dot name)) two in
         joined name (plain_fine (before_first is_dot name) both.0) (plain_fine (after_first is_dot name) both.1)

@@ -118,6 +118,7 @@ same_labels c n (i.Get into cell) rest = refl
 same_labels c n (i.Set source cell) rest = refl
 same_labels c n i.Mark rest = refl
 same_labels c n (i.Copy size buffer site) rest = refl
+same_labels c n (i.Left into) rest = refl
 same_labels c n (i.While target) rest = refl
 same_labels c n (i.Again target) rest = refl
 
@@ -157,6 +158,7 @@ module _ (c : Parts) (n : ℕ) where
   put_rising pc (i.Set source cell) bs h = stated_rising pc (i.Set source cell) bs h
   put_rising pc i.Mark bs h = stated_rising pc i.Mark bs h
   put_rising pc (i.Copy size buffer site) bs h = stated_rising pc (i.Copy size buffer site) bs h
+  put_rising pc (i.Left into) bs h = stated_rising pc (i.Left into) bs h
   put_rising pc (i.While target) bs h = looped_rising pc bs h
   put_rising pc (i.Again target) bs h = (omega arith, h)
 
@@ -277,6 +279,7 @@ module _ (c : Parts) (names : ℕ → List ℕ) (code : IsCode c) (sound : IsSou
     declares (i.Get into cell) k rest r = let t = k.tables in (k.registers, omega (arith, t), r)
     declares (i.Set source cell) k rest r = let t = k.tables in (omega (arith, t), k.registers, r)
     declares i.Mark k rest r = (tt, tt, r)
+    declares (i.Left into) k rest r = (k.registers, (tt, tt), r)
     declares (i.Copy size buffer site) k rest r =
         let t = k.tables.1 in (
           ((tt, tt), k.registers),
@@ -335,6 +338,7 @@ module _ (c : Parts) (names : ℕ → List ℕ) (code : IsCode c) (sound : IsSou
     put_is pc (i.Set source cell) known bs h = stated_is pc (i.Set source cell) known bs h
     put_is pc i.Mark known bs h = stated_is pc i.Mark known bs h
     put_is pc (i.Copy size buffer site) known bs h = stated_is pc (i.Copy size buffer site) known bs h
+    put_is pc (i.Left into) known bs h = stated_is pc (i.Left into) known bs h
     put_is pc (i.While target) k bs h = looped_is pc bs h
     put_is pc (i.Again target) k bs h = (tt, h)
 

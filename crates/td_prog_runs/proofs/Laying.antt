@@ -67,6 +67,7 @@ still c n (i.Get into cell) rest l h = h
 still c n (i.Set source cell) rest l h = h
 still c n i.Mark rest l h = h
 still c n (i.Copy size buffer site) rest l h = h
+still c n (i.Left into) rest l h = h
 
 module _ (c : Parts) (safe : IsSafe c) (n : ℕ) where
   abbrev O : ℕ → Option (List Bracket)
@@ -329,6 +330,7 @@ module _ (c : Parts) (safe : IsSafe c) (n : ℕ) where
           (i.Set source cell) qs bs k.place k.form tt x,
     )
     lays pc i.Mark qs bs k x = ((leads_on pc i.Mark k (pc + 1) refl).1.to, plain_stands pc i.Mark qs bs k.place k.form tt x)
+    lays pc (i.Left into) qs bs k x = ((leads_on pc (i.Left into) k (pc + 1) refl).1.to, plain_stands pc (i.Left into) qs bs k.place k.form tt x)
     lays pc (i.Copy size buffer site) qs bs k x = (
       ((leads_on pc (i.Copy size buffer site) k (pc + 1) refl).1.to, (tables pc (i.Copy size buffer site) k).1),
       plain_stands pc

@@ -142,6 +142,7 @@ module _ (c : Parts) (safe : IsSafe c) (n : ℕ) (need helper routine : ℕ → 
   stands_before pc k (i.Set source cell) bs known x = plain_stands pc k (i.Set source cell) bs known tt x
   stands_before pc k i.Mark bs known x = plain_stands pc k i.Mark bs known tt x
   stands_before pc k (i.Copy size buffer site) bs known x = plain_stands pc k (i.Copy size buffer site) bs known tt x
+  stands_before pc k (i.Left into) bs known x = plain_stands pc k (i.Left into) bs known tt x
 
   known : (pc : ℕ) (j : Instr) → IsIn c n pc → slice_get c.instructions pc ≡ Some j → IsKnown pc j
   known pc j place h =

@@ -65,4 +65,5 @@ module _ (c : Parts) (n : ℕ) (need helper routine : ℕ → ℕ) (d : ℕ) (ne
   adds (i.Get into cell) rest = plain (G rest)
   adds (i.Set source cell) rest = plain (G rest)
   adds i.Mark rest = plain (G rest)
+  adds (i.Left into) rest = plain (G rest)
   adds (i.Copy size buffer site) rest = let h = near.helpers copy_helper in (omega arith, omega arith, omega (arith, h))

@@ -258,6 +258,9 @@ module _ (activation : Activation) (is : IsActive activation) where
   instruction_done pc i.Mark qs [] a l d = tt
   instruction_done pc i.Mark qs (rest ∷ more) a l d =
       (done pc i.Mark rest d.0 (λ go. refl) (λ k h. h) (λ go f h. plain.case_mark activation is f pc rest go [] l (d.0.runs go f h) a), d.1)
+  instruction_done pc (i.Left into) qs [] a l d = tt
+  instruction_done pc (i.Left into) qs (rest ∷ more) a l d =
+      (done pc (i.Left into) rest d.0 (λ go. refl) (λ k h. h) (λ go f h. plain.case_left activation is f pc rest go [] l (d.0.runs go f h) into a), d.1)
   instruction_done pc (i.Copy size buffer site) qs [] a l d = tt
   instruction_done pc (i.Copy size buffer site) qs (rest ∷ more) a l d = (
     done pc (i.Copy size buffer site) rest d.0 (λ go. refl) (λ k h. h)

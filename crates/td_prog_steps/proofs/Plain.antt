@@ -21,7 +21,7 @@ use Rattle.td_prog_code.specs.Instructions.{statement, skipped, narrowed}
 use Rattle.td_prog_trees.specs.Agree.{state_of, IsGood, Agrees, IsOnward}
 use Rattle.td_prog_trees.proofs.Composing.{by_cases}
 use Rattle.td_prog_steps.proofs.Values.{operated_is, operated_small, bit_small, bits_is, bits_small, rest_is}
-use Rattle.td_prog_steps.proofs.Goods.{start_small, small_at, sum_is, end_small, good_regs, good_cells, good_start, good_pos, good_narrow, good_widen}
+use Rattle.td_prog_steps.proofs.Goods.{start_small, small_at, sum_is, end_small, left_is, good_regs, good_cells, good_start, good_pos, good_narrow, good_widen}
 use Rattle.td_prog_steps.proofs.Activation.{Activation, IsActive}
 use Rattle.td_prog_steps.proofs.Activation as routine
 use Rattle.td_prog_steps.proofs.Steps.{goes_on, fails, failed, failed_ok, with_room}
@@ -80,6 +80,16 @@ module _ (activation : Activation) (is : IsActive activation) where
         goes_on activation is f pc (pc + 1) (i.Pos into) s (with_reg (state_of s) into s.start) [] 1
         (begin rest go around (written (Reg into) s.start s)) a next l refl
         (ih (written (Reg into) s.start s) (good_regs extent s into s.start b g))
+
+    pub case_left : (into : ℕ) → IsHere pc (i.Left into) → Follows (begin (statement c n (i.Left into) rest) go around) (exit f pc)
+    case_left into a s g =
+        let e = end_small extent s is.within g in
+        let v = s.end - s.pos in
+        let b : v < 2 ^ 64 = omega (arith, e) in
+        subst (λ x. Ok s (begin rest go around (written (Reg into) x s)) (exit f pc (state_of s))) (sym (left_is s.end s.pos g.within e))
+        (goes_on activation is f pc (pc + 1) (i.Left into) s (with_reg (state_of s) into v) [] 1
+        (begin rest go around (written (Reg into) v s)) a next l refl
+        (ih (written (Reg into) v s) (good_regs extent s into v b g)))
 
     pub case_rest : IsHere pc i.Rest → Follows (begin (statement c n i.Rest rest) go around) (exit f pc)
     case_rest a s g =

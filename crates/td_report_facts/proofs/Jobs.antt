@@ -27,6 +27,7 @@ use Rattle.td_job.specs.Written.{datum_of}
 use Rattle.td_core.specs.Entries.{entry_definition}
 use Rattle.td_front.specs.Checked.{IsChecked}
 use Rattle.td_write_values.specs.declared.limits.TheConstants.{MOST_WRITTEN}
+use Rattle.td_meaning.specs.Copies.{opened}
 use Rattle.td_write_values.specs.Spelling.{spelling}
 use Rattle.td_write_spells.specs.Laws.{WritingIsExact, KindsAreAdmitted}
 use Rattle.td_write.specs.Answers.{IsWritable}
@@ -134,13 +135,13 @@ shaped law kinds m job j (Some value) checked small h =
     let stores = both_empty _ _ names.0 in
     let fields = both_empty _ _ stores.0 in
     let writing = both_empty _ _ fields.1 in
-    let bytes = spelled_or_none (spelling m j.entry args (datum_of value)) in
+    let bytes = spelled_or_none (spelling m j.entry args (opened m j.entry cells) (datum_of value)) in
     let few : length bytes ≤ MOST_WRITTEN = faultless_short law kinds m j.entry args cells (datum_of value) (writable m checked) writing.1 in
     let long = same_Some (length bytes) j.length h.as_long in
     record {
       limit = omega (arith, few, long);
       stretches = subst AreSized (sym h.layout) tt;
-      written = subst IsWritten (sym h.written) (written_bytes m j.entry args value (spelling m j.entry args (datum_of value)) refl);
+      written = subst IsWritten (sym h.written) (written_bytes m j.entry args (opened m j.entry cells) value (spelling m j.entry args (opened m j.entry cells) (datum_of value)) refl);
     }
 
 sized : WritingIsExact → KindsAreAdmitted → (bytes : List ℕ) (m : Module) (job : Data) (j : RunJob) → IsChecked m → Reads bytes job → IsRunJob bytes m j → IsJob m job j → IsSized m j

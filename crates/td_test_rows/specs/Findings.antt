@@ -3,7 +3,7 @@ use Rattle.std.specs.Prelude.{◌≡◌, ℕ, List, [], ◌∷◌, map, Option, 
 use Rattle.td_test_rows.specs.Imports.{Def, ModuleTree}
 use Rattle.td_core.specs.declared.expressions.Binary.{Binary}
 use Rattle.td_expr.specs.declared.safety.Unsafe.{Unsafe}
-use Rattle.td_expr.specs.declared.safety.Unsafe.TheVariants.{Operator, Room}
+use Rattle.td_expr.specs.declared.safety.Unsafe.TheVariants.{Operator, Room, Value}
 use Rattle.td_kinds.specs.declared.error.KindFault.{KindFault}
 use Rattle.td_kinds.specs.KindRules.{kind_faults, first_fault}
 use Rattle.td_limits.specs.declared.limits.Limit.{Limit}
@@ -25,11 +25,12 @@ AreFound found rows = map (λ r. found r.0) rows ≡ map (λ r. r.1) rows
 
 -- ---- the safety rule: the first operator that isn't safe, and its place
 
--- what lacks room isn't an operator
+-- what lacks room, and a value that may not fit, isn't an operator
 abbrev operator_at : Option Unsafe → Option (Binary × ℕ)
 operator_at None = None
 operator_at (Some (Operator span op)) = Some (op, span.from)
 operator_at (Some (Room span)) = None
+operator_at (Some (Value span)) = None
 
 abbrev pub SafetyRow : Type 0
 SafetyRow = List Def × Option (Binary × ℕ)
@@ -43,12 +44,27 @@ abbrev room_at : Option Unsafe → Option ℕ
 room_at None = None
 room_at (Some (Operator span op)) = None
 room_at (Some (Room span)) = Some span.from
+room_at (Some (Value span)) = None
 
 abbrev pub RoomRow : Type 0
 RoomRow = List Def × Option ℕ
 
 abbrev pub RoomsHold : List RoomRow → Type 0
 RoomsHold rows = AreFound (λ ds. room_at (module_unsafe (module_of (tree_of ds)))) rows
+
+-- ---- the safety rule: the place of the first value that may not fit its field, where nothing before it isn't safe
+
+abbrev value_at : Option Unsafe → Option ℕ
+value_at None = None
+value_at (Some (Operator span op)) = None
+value_at (Some (Room span)) = None
+value_at (Some (Value span)) = Some span.from
+
+abbrev pub ValueRow : Type 0
+ValueRow = List Def × Option ℕ
+
+abbrev pub ValuesHold : List ValueRow → Type 0
+ValuesHold rows = AreFound (λ ds. value_at (module_unsafe (module_of (tree_of ds)))) rows
 
 -- ---- kinds: the first refusal
 

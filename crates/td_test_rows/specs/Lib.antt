@@ -21,3 +21,4 @@ pub mod Kinds
 pub mod Limits
 pub mod Measured
 pub mod Told
+pub mod Given

@@ -14,7 +14,7 @@ ghost use Rattle.td_test_rows.specs.Names.{names};
 ghost use Rattle.td_test_rows.specs.Expressions.{expressions};
 ghost use Rattle.td_test_rows.specs.Formats.{formats};
 ghost use Rattle.td_test_rows.specs.Worked.{AreWorked};
-ghost use Rattle.td_test_rows.specs.Findings.{SafetyHolds, RoomsHold, KindsHold, LimitsHold, SizesHold};
+ghost use Rattle.td_test_rows.specs.Findings.{SafetyHolds, RoomsHold, ValuesHold, KindsHold, LimitsHold, SizesHold};
 ghost use Rattle.td_test_rows.specs.Messages.{MessagesHold};
 ghost use Rattle.td_test_rows.specs.Readings.{readings};
 ghost use Rattle.td_test_rows.specs.Safety.{safety};
@@ -22,6 +22,7 @@ ghost use Rattle.td_test_rows.specs.Kinds.{kinds};
 ghost use Rattle.td_test_rows.specs.Limits.{limits};
 ghost use Rattle.td_test_rows.specs.Measured.{measured};
 ghost use Rattle.td_test_rows.specs.Told.{told_rows};
+ghost use Rattle.td_test_rows.specs.Given.{given, values, given_messages};
 
 /// Rows on enums.
 pub fn enums_are_right()
@@ -86,6 +87,21 @@ pub fn safety_holds()
 /// Rows on copies: the first that may lack room.
 pub fn rooms_hold()
     ensures { RoomsHold rooms }
+{}
+
+/// Rows on fields without bytes.
+pub fn fields_without_bytes_are_right()
+    ensures { AreRight given }
+{}
+
+/// Rows on fields without bytes: the first value that may not fit its field.
+pub fn values_hold()
+    ensures { ValuesHold values }
+{}
+
+/// Rows on messages with fields without bytes.
+pub fn messages_without_bytes_hold()
+    ensures { MessagesHold given_messages }
 {}
 
 /// Rows on kinds: the first refusal.

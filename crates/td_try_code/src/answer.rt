@@ -25,7 +25,7 @@ fn put_error(error: ImageError, out: &mut String) -> Result<(), AllocError> {
     }
 }
 
-// Code that is read of an older version is written in the latest one, so its image is another.
+// Code is written in one version, so what is read of another isn't the same image.
 fn put_again(
     alloc: Global,
     code: &Verified,

@@ -201,6 +201,7 @@ own_some ws (i.Get a c) = omega arith
 own_some ws (i.Set b c) = omega arith
 own_some ws i.Mark = omega arith
 own_some ws (i.Copy b c site) = omega arith
+own_some ws (i.Left a) = omega arith
 
 twice_some : (b : Bool) (x : ℕ) → 1 ≤ x → 1 ≤ cond b (2 * x) x
 twice_some true x h = omega arith

@@ -47,6 +47,7 @@ own_small ws h (i.Get a c) = omega arith
 own_small ws h (i.Set b c) = omega arith
 own_small ws h i.Mark = omega arith
 own_small ws h (i.Copy b c site) = omega arith
+own_small ws h (i.Left a) = omega arith
 
 pub own_small_there : (c : Parts) (ws : List ℕ) (p : ℕ) → ((m : ℕ) → slice_index ws m ≤ 2 ^ 40) → own_weight ws (shape_at (shapes_of c) p) ≤ 1 + 2 ^ 40
 own_small_there c ws p h = subst (λ x. own_weight ws x ≤ 1 + 2 ^ 40) (sym (shape_there c p)) (own_small ws h (instruction_of c p))

@@ -5,7 +5,7 @@ use Rattle.td_verify_lowered.specs.Imports.{Element, Number, Listed, Named, Unit
 use Rattle.td_ir.specs.Tables.{routine_of}
 use Rattle.td_verify.specs.Operands.{IsCellMap}
 use Rattle.td_lower_blocks.specs.Lowered.{parts_in}
-use Rattle.td_lower_blocks.specs.Tops.{parts_cells}
+use Rattle.td_lower_blocks.specs.Tops.{extent_cells, parts_cells}
 
 -- some bits of a number
 abbrev pub BitsFit : Option Bits → Type 0
@@ -38,6 +38,7 @@ module _ (c : Parts) (depth : ℕ → ℕ) (busy : ℕ → Bool) (n : ℕ) where
     pub array : ArrayFits f.element f.extent
     pub copy : CopyFits f.copy
     pub cells : parts_cells f.parts ≤ (routine_of c n).cells
+    pub source : extent_cells f.extent ≤ (routine_of c n).cells
     pub bits : Each (λ p. BitsFit p.bits) f.parts
 
   abbrev pub FieldsFit : ℕ → List Field → Type 0

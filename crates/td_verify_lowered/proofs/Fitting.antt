@@ -4,12 +4,12 @@ use Rattle.std.proofs.lemmas.List.{length-map}
 use Rattle.std.proofs.lemmas.Option.{slice_get_within}
 use Rattle.std.proofs.lemmas.Bool.Decides.{nat_tests}
 use Rattle.td_num.specs.Numbers.{bytes_in}
-use Rattle.td_verify_lowered.specs.Imports.{Width, One, Two, Four, Eight, Kind, Element, Number as NumberElement, Listed as ListedElement, Named as NamedElement, Unit as UnitElement, Rest, Zeros, Extent, Once, Filling, OnceFilling, UpToZero, Bits, CopyOut, Part, Field, Case, Body, Struct, Casetype, TypeDef, Parts}
+use Rattle.td_verify_lowered.specs.Imports.{Width, One, Two, Four, Eight, Kind, Element, Number as NumberElement, Listed as ListedElement, Named as NamedElement, Unit as UnitElement, Rest, Zeros, Extent, Once, Filling, OnceFilling, UpToZero, Given, Source, Expression, FromCell, Left, Bits, CopyOut, Part, Field, Case, Body, Struct, Casetype, TypeDef, Parts}
 use Rattle.td_num.specs.Lists.{Each}
 use Rattle.td_core.specs.declared.module.NameId.{NameId}
 use Rattle.td_core.specs.Term.{Deed, done, set, keep, fork, answer, give_up}
 use Rattle.td_core.specs.Formed.{Bound, parts_scope, AreCellsFormed, own_bounds, own_at, IsElementFormed, AreFieldsFormed, AreCasesFormed, IsDefaultFormed, IsBodyFormed}
-use Rattle.td_core.specs.Copies.{IsCopyWhole, AreOwnGiven, IsElementGiven, NamesCells, IsFieldCopying}
+use Rattle.td_core.specs.Copies.{IsCopyWhole, AreOwnGiven, IsElementGiven, NamesCells, IsSourceOwn, IsExtentOwn, IsFieldCopying}
 use Rattle.td_core.specs.WellFormed.{OfSome, EachField, HasParts, AreBitsOf, AreParts, AreFieldParts, IsEnumThere, IsFieldWhole}
 use Rattle.td_core.specs.Weights.{of_named, fields_depth, default_depth, cases_depth, body_depth}
 use Rattle.td_kinds.specs.declared.error.KindFault.{KindFault}
@@ -20,7 +20,7 @@ use Rattle.td_kinds.proofs.Faultless.{no_fault}
 use Rattle.td_ir.specs.Tables.{routine_of}
 use Rattle.td_lower_blocks.specs.Lowered.{parts_in}
 use Rattle.td_lower_blocks.specs.Tabled.{Mapped, FieldsSited, DefaultSited, CasesSited, BodySited}
-use Rattle.td_lower_blocks.specs.Tops.{deed_cells, option_cells, parts_cells}
+use Rattle.td_lower_blocks.specs.Tops.{deed_cells, option_cells, source_cells, extent_cells, parts_cells}
 use Rattle.td_verify_lowered.proofs.Fit.{BitsFit, ElementFits, ArrayFits, CopyFits, FieldsFit, DefaultFits, CasesFit, BodyFits}
 use Rattle.td_lower_blocks.specs.Laid.{rooms}
 use Rattle.td_verify_lowered.proofs.Maps.{is_map}
@@ -38,6 +38,18 @@ deed_low n give_up h = omega arith
 action_low : (n : ℕ) (o : Option Deed) → OfSome (NamesCells n) o → option_cells o ≤ n
 action_low n None h = omega arith
 action_low n (Some d) h = deed_low n d h
+
+source_low : (n : ℕ) (source : Source) → IsSourceOwn n source → source_cells source ≤ n
+source_low n (Expression span e) h = omega arith
+source_low n (FromCell cell) h = omega (arith, h)
+source_low n Left h = omega arith
+
+pub extent_low : (n : ℕ) (extent : Extent) → IsExtentOwn n extent → extent_cells extent ≤ n
+extent_low n Once h = omega arith
+extent_low n (Filling size step) h = omega arith
+extent_low n (OnceFilling size step) h = omega arith
+extent_low n (UpToZero size) h = omega arith
+extent_low n (Given source) h = source_low n source h
 
 pub parts_low : (n : ℕ) (ps : List Part) → Each (λ p. OfSome (NamesCells n) p.action) ps → parts_cells ps ≤ n
 parts_low n [] h = omega arith
@@ -72,6 +84,7 @@ alone (NumberElement type) Once (Some b) ps h = (bits_fit type.width (Some b) ty
 alone (NumberElement type) (Filling size step) (Some b) ps h = absurd h
 alone (NumberElement type) (OnceFilling size step) (Some b) ps h = absurd h
 alone (NumberElement type) (UpToZero size) (Some b) ps h = absurd h
+alone (NumberElement type) (Given source) (Some b) ps h = absurd h
 alone (ListedElement base v) extent (Some b) ps h = absurd h
 alone (NamedElement d args own) extent (Some b) ps h = absurd h
 alone UnitElement extent (Some b) ps h = absurd h
@@ -81,6 +94,7 @@ alone (NumberElement type) Once None ps h = (tt, subst (Each (λ p. BitsFit p.bi
 alone (NumberElement type) (Filling size step) None ps h = (tt, subst (Each (λ p. BitsFit p.bits)) (sym h) tt)
 alone (NumberElement type) (OnceFilling size step) None ps h = (tt, subst (Each (λ p. BitsFit p.bits)) (sym h) tt)
 alone (NumberElement type) (UpToZero size) None ps h = (tt, subst (Each (λ p. BitsFit p.bits)) (sym h) tt)
+alone (NumberElement type) (Given source) None ps h = (tt, subst (Each (λ p. BitsFit p.bits)) (sym h) tt)
 alone (ListedElement base v) extent None ps h = (tt, subst (Each (λ p. BitsFit p.bits)) (sym h) tt)
 alone (NamedElement d args own) extent None ps h = (tt, subst (Each (λ p. BitsFit p.bits)) (sym h) tt)
 alone UnitElement extent None ps h = (tt, subst (Each (λ p. BitsFit p.bits)) (sym h) tt)
@@ -137,6 +151,7 @@ module _ (c : Parts) (depth : ℕ → ℕ) (n : ℕ) (ds : List TypeDef) (d : Ty
   array_fits (NamedElement j args own) Once f h = tt
   array_fits (NamedElement j args own) (OnceFilling size step) f h = tt
   array_fits (NamedElement j args own) (UpToZero size) f h = tt
+  array_fits (NamedElement j args own) (Given source) f h = tt
   array_fits (NumberElement type) extent f h = tt
   array_fits (ListedElement base v) extent f h = tt
   array_fits UnitElement extent f h = tt
@@ -154,6 +169,7 @@ module _ (c : Parts) (depth : ℕ → ℕ) (n : ℕ) (ds : List TypeDef) (d : Ty
           array = array_fits f.element f.extent (ZeroElement f.place) (none_first _ _ own);
           copy = copy_fits f f.copy g.0.copy;
           cells = subst (λ x. parts_cells f.parts ≤ x) (sym cells) (parts_low (length d.cells) f.parts g.0.actions);
+          source = subst (λ x. extent_cells f.extent ≤ x) (sym cells) (extent_low (length d.cells) f.extent g.0.source);
           bits = parts_fit f.element f.extent f.parts w.0.parts;
         },
         fields_fit ty (length f.parts + site) (parts_scope f.element f.extent scope f.parts) fs h.1.1.1 w.1 g.1 s.1.1.1 (none_then (field_faults kinds f last) (fields_faults kinds fs) k) (omega (arith, m)),

@@ -2,7 +2,7 @@
 use Rattle.std.proofs.Common.{◌≡◌, ℕ, zero, suc, ◌+◌, ◌^◌, ◌<◌, ◌≤◌, inl, inr, List, [], ◌∷◌, Bool, true, false, cond, nat_lt, length, Option, Some, None, refl, sym, subst, arith}
 use Rattle.std.proofs.lemmas.Bool.Decides.{nat_tests}
 use Rattle.td_num.specs.Numbers.{bytes_in}
-use Rattle.td_verify_lowered.specs.Imports.{Width, One, Two, Four, Eight, Element, Number as NumberElement, Listed as ListedElement, Named as NamedElement, Unit as UnitElement, Rest, Zeros, Extent, Once, Filling, OnceFilling, UpToZero, Bits, CopyOut, Part, Field, Case, Body as BodyDef, Struct as StructDef, Casetype as CasetypeDef, TypeDef, Parts}
+use Rattle.td_verify_lowered.specs.Imports.{Width, One, Two, Four, Eight, Element, Number as NumberElement, Listed as ListedElement, Named as NamedElement, Unit as UnitElement, Rest, Zeros, Extent, Once, Filling, OnceFilling, UpToZero, Given, Source, Expression, FromCell, Left, Bits, CopyOut, Part, Field, Case, Body as BodyDef, Struct as StructDef, Casetype as CasetypeDef, TypeDef, Parts}
 use Rattle.td_num.specs.declared.number.ByteOrder.{ByteOrder}
 use Rattle.td_num.specs.declared.number.ByteOrder.TheVariants.{LittleEndian, BigEndian}
 use Rattle.td_num.specs.declared.number.NumberType.{NumberType}
@@ -16,9 +16,9 @@ use Rattle.td_meaning.specs.Meaning.{divides, equals}
 use Rattle.td_ir.specs.Tables.{routine_of}
 use Rattle.td_verify.specs.Operands.{IsWidth}
 use Rattle.td_lower_blocks.specs.Constructs.{Expr, Lit, Slot, Binary, Not, Complement, ShiftLeft, Both, Either, Choice, Range, Steps, Inner, CopyAll, Body}
-use Rattle.td_lower_blocks.specs.Lowered.{expr_of, exprs_of, action_of, order_code, part_slot, number_slot, bits_step, test_step, action_step, when, is_read, terms_of, arguments, parts_in, cases_parts, default_parts, body_parts, parts_steps, once_step, evenly, exactly, each_inner, one_inner, constant_step, filling_step, once_filling_step, up_to_zero_step, shape_step, copied_step, content_step, fields_steps, last_case, cases_of, body_of, guarded_body, definition_body}
-use Rattle.td_lower_blocks.specs.Placed.{Reaches, IsExpr, DeedPlaced, OptionExpr, OptionDeed, PartsPlaced, ArgsPlaced, ElementPlaced, SizePlaced, ElementsPlaced, OnePlaced, IsNumber, ShapePlaced, CopyPlaced, FieldsPlaced, DefaultPlaced, CasesPlaced, BodyPlaced}
-use Rattle.td_lower_blocks.specs.Tops.{deed_cells, option_cells, parts_cells}
+use Rattle.td_lower_blocks.specs.Lowered.{expr_of, exprs_of, action_of, order_code, part_slot, number_slot, bits_step, test_step, action_step, when, is_read, terms_of, arguments, parts_in, cases_parts, default_parts, body_parts, parts_steps, once_step, evenly, exactly, each_inner, one_inner, constant_step, filling_step, once_filling_step, up_to_zero_step, source_step, shape_step, copied_step, content_step, fields_steps, last_case, cases_of, body_of, guarded_body, definition_body}
+use Rattle.td_lower_blocks.specs.Placed.{Reaches, IsExpr, DeedPlaced, OptionExpr, OptionDeed, PartsPlaced, ArgsPlaced, ElementPlaced, SizePlaced, ElementsPlaced, OnePlaced, IsNumber, SourcePlaced, ShapePlaced, CopyPlaced, FieldsPlaced, DefaultPlaced, CasesPlaced, BodyPlaced}
+use Rattle.td_lower_blocks.specs.Tops.{deed_cells, option_cells, source_cells, extent_cells, parts_cells}
 use Rattle.td_verify_lowered.specs.Good.{IsSiteOf, AllReach, Does, IsCallable, IsRead, GoodInner, Good, GoodCases, GoodBody}
 use Rattle.td_verify_lowered.proofs.Fit.{BitsFit, ElementFits, ArrayFits, CopyFits, FieldsFit, DefaultFits, CasesFit, BodyFits}
 
@@ -211,12 +211,19 @@ module _ (c : Parts) (depth : ℕ → ℕ) (busy : ℕ → Bool) (n t : ℕ) (pa
   good_zero L site Rest size k h i s g = absurd i
   good_zero L site Zeros size k h i s g = absurd i
 
+  good_source : (L slot : ℕ) (source : Source) (k : Steps) → SourcePlaced (routine_of c n).registers L (suc t) source → source_cells source ≤ (routine_of c n).cells → slot < (routine_of c n).registers → Good c depth busy n k
+      → Good c depth busy n (source_step t source slot k)
+  good_source L slot (Expression span e) k h u l g = (room, l, h.1.1, g)
+  good_source L slot (FromCell cell) k h u l g = (l, omega (arith, u), g)
+  good_source L slot Left k h u l g = (l, g)
+
   good_shape : (L slot site : ℕ) (needed : Bool) (element : Element) (extent : Extent) (k : Steps) → ShapePlaced n params (routine_of c n).registers L t element extent → ElementFits c depth busy n site element → ArrayFits c depth busy n element extent
-      → slot < (routine_of c n).registers → IsSiteOf c n site → Good c depth busy n k → Good c depth busy n (shape_step t element extent needed slot site k)
-  good_shape L slot site needed element Once k h f b l s g = good_once L slot site needed element k h f l s g
-  good_shape L slot site needed element (Filling size step) k h f b l s g = good_filling L site (constant_of size) step element size k h.0 h.1.0 h.1.1.0 f b s g
-  good_shape L slot site needed element (OnceFilling size step) k h f b l s g = good_once_filling L site (constant_of size) step element size k h.0 h.1.0 h.1.1.0 f s g
-  good_shape L slot site needed element (UpToZero size) k h f b l s g = good_zero L site element size k h.0 h.1 s g
+      → extent_cells extent ≤ (routine_of c n).cells → slot < (routine_of c n).registers → IsSiteOf c n site → Good c depth busy n k → Good c depth busy n (shape_step t element extent needed slot site k)
+  good_shape L slot site needed element Once k h f b u l s g = good_once L slot site needed element k h f l s g
+  good_shape L slot site needed element (Filling size step) k h f b u l s g = good_filling L site (constant_of size) step element size k h.0 h.1.0 h.1.1.0 f b s g
+  good_shape L slot site needed element (OnceFilling size step) k h f b u l s g = good_once_filling L site (constant_of size) step element size k h.0 h.1.0 h.1.1.0 f s g
+  good_shape L slot site needed element (UpToZero size) k h f b u l s g = good_zero L site element size k h.0 h.1 s g
+  good_shape L slot site needed element (Given source) k h f b u l s g = good_source L slot source k h u l g
 
   good_copied : (L site : ℕ) (o : Option ℕ) (w : CopyOut) (size : Term) (k : Steps) → IsExpr (routine_of c n).registers L (suc t) size → w.buffer < length (routine_of c n).buffers → IsSiteOf c n site
       → Good c depth busy n k → Good c depth busy n (copied_step t o w size site k)
@@ -224,13 +231,14 @@ module _ (c : Parts) (depth : ℕ → ℕ) (busy : ℕ → Bool) (n t : ℕ) (pa
   good_copied L site (Some m) w size k h b s g = good_constant m site (CopyAll (suc t) w.buffer m site) k s (record { size_in = room; buffer_in = b; named = s }) g
 
   good_content : (L slot site : ℕ) (needed : Bool) (element : Element) (extent : Extent) (copy : Option CopyOut) (k : Steps) → ShapePlaced n params (routine_of c n).registers L t element extent → CopyPlaced (routine_of c n).registers L t extent copy
-      → ElementFits c depth busy n site element → ArrayFits c depth busy n element extent → CopyFits c depth busy n copy → slot < (routine_of c n).registers → IsSiteOf c n site
+      → ElementFits c depth busy n site element → ArrayFits c depth busy n element extent → CopyFits c depth busy n copy → extent_cells extent ≤ (routine_of c n).cells → slot < (routine_of c n).registers → IsSiteOf c n site
       → Good c depth busy n k → Good c depth busy n (content_step t element extent copy needed slot site k)
-  good_content L slot site needed element extent None k h y f b w l s g = good_shape L slot site needed element extent k h f b l s g
-  good_content L slot site needed element Once (Some x) k h y f b w l s g = good_shape L slot site needed element Once k h f b l s g
-  good_content L slot site needed element (Filling size step) (Some x) k h y f b w l s g = good_copied L site (constant_of size) x size k y w s g
-  good_content L slot site needed element (OnceFilling size step) (Some x) k h y f b w l s g = good_shape L slot site needed element (OnceFilling size step) k h f b l s g
-  good_content L slot site needed element (UpToZero size) (Some x) k h y f b w l s g = good_shape L slot site needed element (UpToZero size) k h f b l s g
+  good_content L slot site needed element extent None k h y f b w u l s g = good_shape L slot site needed element extent k h f b u l s g
+  good_content L slot site needed element Once (Some x) k h y f b w u l s g = good_shape L slot site needed element Once k h f b u l s g
+  good_content L slot site needed element (Filling size step) (Some x) k h y f b w u l s g = good_copied L site (constant_of size) x size k y w s g
+  good_content L slot site needed element (OnceFilling size step) (Some x) k h y f b w u l s g = good_shape L slot site needed element (OnceFilling size step) k h f b u l s g
+  good_content L slot site needed element (UpToZero size) (Some x) k h y f b w u l s g = good_shape L slot site needed element (UpToZero size) k h f b u l s g
+  good_content L slot site needed element (Given source) (Some x) k h y f b w u l s g = good_shape L slot site needed element (Given source) k h f b u l s g
 
   -- a field has at least one part, so its site is in the table
   good_fields : (D site L : ℕ) (fs : List Field) → FieldsPlaced n params (routine_of c n).registers D L t fs → FieldsFit c depth busy n site fs → Each (λ f. HasParts f.parts) fs → InRange site (parts_in fs)
@@ -238,7 +246,7 @@ module _ (c : Parts) (depth : ℕ → ℕ) (busy : ℕ → Bool) (n t : ℕ) (pa
   good_fields D site L [] h f w s = tt
   good_fields D site L (x ∷ fs) h f w s =
       let some = some_parts x.parts w.0 in
-      good_content L (number_slot L t x.parts) site (is_needed L x.parts fs) x.element x.extent x.copy _ h.1.0.0 h.1.0.1 f.0.element f.0.array f.0.copy (slot_in (routine_of c n).registers D L t x.parts h.1.1.0 (omega (arith, room))) (own site s.0 (omega (arith, s.1, some)))
+      good_content L (number_slot L t x.parts) site (is_needed L x.parts fs) x.element x.extent x.copy _ h.1.0.0 h.1.0.1 f.0.element f.0.array f.0.copy f.0.source (slot_in (routine_of c n).registers D L t x.parts h.1.1.0 (omega (arith, room))) (own site s.0 (omega (arith, s.1, some)))
       (good_parts D (is_read x.element x.extent (is_needed L x.parts fs)) site L x.parts _ h.1.1.0 f.0.bits f.0.cells (s.0, omega (arith, s.1))
       (good_fields D (length x.parts + site) (length x.parts + L) fs h.1.1.1.1.1 f.1 w.1 (omega (arith, s.0), omega (arith, s.1))))
 

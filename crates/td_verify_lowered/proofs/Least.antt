@@ -1,14 +1,14 @@
 -- What is written for a definition of values that take a byte takes a byte.
 use Rattle.std.proofs.Common.{◌≡◌, ℕ, zero, suc, ◌+◌, ◌^◌, ◌<◌, ◌≤◌, min, List, [], ◌∷◌, Bool, true, false, cond, nat_lt, length, Option, Some, None, refl, arith}
 use Rattle.td_num.specs.Numbers.{bytes_in}
-use Rattle.td_verify_lowered.specs.Imports.{Width, One, Two, Four, Eight, Kind, Element, Number as NumberElement, Listed as ListedElement, Named as NamedElement, Unit as UnitElement, Rest, Zeros, Extent, Once, Filling, OnceFilling, UpToZero, Bits, CopyOut, Part, Field, Case, Body as BodyDef, Struct as StructDef, Casetype as CasetypeDef, TypeDef}
+use Rattle.td_verify_lowered.specs.Imports.{Width, One, Two, Four, Eight, Kind, Element, Number as NumberElement, Listed as ListedElement, Named as NamedElement, Unit as UnitElement, Rest, Zeros, Extent, Once, Filling, OnceFilling, UpToZero, Given, Source, Expression, FromCell, Left, Bits, CopyOut, Part, Field, Case, Body as BodyDef, Struct as StructDef, Casetype as CasetypeDef, TypeDef}
 use Rattle.td_core.specs.Term.{Term, Deed}
 use Rattle.td_expr.specs.Same.{constant_of}
 use Rattle.td_meaning.specs.Naming.{is_needed}
 use Rattle.td_kinds.specs.declared.sizes.TheConstants.{SIZE_CAP}
 use Rattle.td_kinds.specs.Kinds.{joined, element_kind, sized_kind, field_kind, fields_kind, default_kind, spanned_with, cases_kind, body_kind}
 use Rattle.td_lower_blocks.specs.Constructs.{Steps, Inner, CopyAll, Body}
-use Rattle.td_lower_blocks.specs.Lowered.{number_slot, bits_step, test_step, action_step, when, is_read, parts_in, parts_steps, once_step, constant_step, filling_step, once_filling_step, up_to_zero_step, shape_step, copied_step, content_step, fields_steps, last_case, cases_of, body_of, guarded_body, definition_body}
+use Rattle.td_lower_blocks.specs.Lowered.{number_slot, bits_step, test_step, action_step, when, is_read, parts_in, parts_steps, once_step, constant_step, filling_step, once_filling_step, up_to_zero_step, source_step, shape_step, copied_step, content_step, fields_steps, last_case, cases_of, body_of, guarded_body, definition_body}
 use Rattle.td_lower_blocks.specs.Placed.{ElementPlaced, ShapePlaced, FieldsPlaced, DefaultPlaced, CasesPlaced, BodyPlaced}
 use Rattle.td_verify_lowered.specs.Weights.{least_of, cases_least, body_least}
 
@@ -85,11 +85,17 @@ module _ (K : ℕ → Kind) (least : ℕ → ℕ) (n : ℕ) (params : ℕ → �
   zero_more site Rest size k = omega arith
   zero_more site Zeros size k = omega arith
 
+  source_more : (source : Source) (slot : ℕ) (k : Steps) → 1 ≤ least_of least k → 1 ≤ least_of least (source_step t source slot k)
+  source_more (Expression span e) slot k h = h
+  source_more (FromCell cell) slot k h = h
+  source_more Left slot k h = h
+
   shape_more : (L slot site : ℕ) (needed : Bool) (element : Element) (extent : Extent) (k : Steps) → ShapePlaced n params R L t element extent → 1 ≤ (field_kind K element extent).least + least_of least k → 1 ≤ least_of least (shape_step t element extent needed slot site k)
   shape_more L slot site needed element Once k p h = once_more L slot site needed element k p h
   shape_more L slot site needed element (Filling size step) k p h = filling_more site (constant_of size) step element size k h
   shape_more L slot site needed element (OnceFilling size step) k p h = once_filling_more site (constant_of size) step element size k h
   shape_more L slot site needed element (UpToZero size) k p h = zero_more site element size k
+  shape_more L slot site needed element (Given source) k p h = source_more source slot k (omega (arith, h))
 
   copied_more : (site : ℕ) (o : Option ℕ) (w : CopyOut) (size : Term) (k : Steps) → 1 ≤ (sized_kind o).least + least_of least k → 1 ≤ least_of least (copied_step t o w size site k)
   copied_more site None w size k h = omega (arith, h)
@@ -102,6 +108,7 @@ module _ (K : ℕ → Kind) (least : ℕ → ℕ) (n : ℕ) (params : ℕ → �
   content_more L slot site needed element (Filling size step) (Some w) k p h = copied_more site (constant_of size) w size k h
   content_more L slot site needed element (OnceFilling size step) (Some w) k p h = shape_more L slot site needed element (OnceFilling size step) k p h
   content_more L slot site needed element (UpToZero size) (Some w) k p h = shape_more L slot site needed element (UpToZero size) k p h
+  content_more L slot site needed element (Given source) (Some w) k p h = shape_more L slot site needed element (Given source) k p h
 
   -- of two that are joined one takes a byte
   joined_more : (a b : Kind) → 1 ≤ (joined a b).least → 1 ≤ a.least + b.least

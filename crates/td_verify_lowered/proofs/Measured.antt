@@ -7,14 +7,14 @@ use Rattle.td_core.specs.declared.expressions.Relation.{Relation}
 use Rattle.td_core.specs.declared.expressions.Relation.TheVariants.{Equal, NotEqual, Less, LessEqual, Greater, GreaterEqual}
 use Rattle.td_core.specs.Term.{Term, number, name, complement, negation, compute, compare, both, either, choice, range_okay, measure, Deed, done, set, keep, fork, answer, give_up}
 use Rattle.td_core.specs.WellFormed.{OfSome, EachField, HasParts}
-use Rattle.td_core.specs.Weights.{option_nodes, terms_nodes, deed_nodes, action_nodes, element_nodes, extent_nodes, part_nodes, total, inner_nodes, of_named, as_array, fields_weight as module_weight, default_weight, cases_weight as module_cases_weight, body_weight as module_body_weight, head_nodes}
-use Rattle.td_verify_lowered.specs.Imports.{Element, Number as NumberElement, Listed as ListedElement, Named as NamedElement, Unit as UnitElement, Rest, Zeros, Extent, Once, Filling, OnceFilling, UpToZero, Bits, CopyOut, Part, Field, Case, Body as BodyDef, Struct as StructDef, Casetype as CasetypeDef, TypeDef}
+use Rattle.td_core.specs.Weights.{option_nodes, terms_nodes, deed_nodes, action_nodes, element_nodes, source_nodes, extent_nodes, part_nodes, total, inner_nodes, of_named, as_array, fields_weight as module_weight, default_weight, cases_weight as module_cases_weight, body_weight as module_body_weight, head_nodes}
+use Rattle.td_verify_lowered.specs.Imports.{Element, Number as NumberElement, Listed as ListedElement, Named as NamedElement, Unit as UnitElement, Rest, Zeros, Extent, Once, Filling, OnceFilling, UpToZero, Given, Source, Expression, FromCell, Left, Bits, CopyOut, Part, Field, Case, Body as BodyDef, Struct as StructDef, Casetype as CasetypeDef, TypeDef}
 use Rattle.td_core.proofs.Nodes.{some_parts}
 use Rattle.td_expr.specs.Same.{constant_of}
 use Rattle.td_meaning.specs.Naming.{is_needed}
 use Rattle.td_meaning.specs.Meaning.{divides, equals}
 use Rattle.td_lower_blocks.specs.Constructs.{Expr, Steps, Inner, Uneven, CopyAll, Body}
-use Rattle.td_lower_blocks.specs.Lowered.{computed_of, compared_of, mask_of, expr_of, exprs_of, action_of, number_slot, bits_step, test_step, action_step, when, is_read, terms_of, arguments, parts_in, parts_steps, once_step, evenly, exactly, each_inner, one_inner, constant_step, filling_step, once_filling_step, up_to_zero_step, shape_step, copied_step, content_step, fields_steps, last_case, cases_of, body_of, guarded_body, definition_body}
+use Rattle.td_lower_blocks.specs.Lowered.{computed_of, compared_of, mask_of, expr_of, exprs_of, action_of, number_slot, bits_step, test_step, action_step, when, is_read, terms_of, arguments, parts_in, parts_steps, once_step, evenly, exactly, each_inner, one_inner, constant_step, filling_step, once_filling_step, up_to_zero_step, source_step, shape_step, copied_step, content_step, fields_steps, last_case, cases_of, body_of, guarded_body, definition_body}
 use Rattle.td_lower_blocks.specs.Placed.{ElementPlaced, ElementsPlaced, OnePlaced, ShapePlaced, FieldsPlaced, DefaultPlaced, CasesPlaced, BodyPlaced}
 use Rattle.td_verify_lowered.specs.Weights.{nodes, all_nodes, act_nodes, inner_weight, weight_of, cases_weight, body_weight}
 
@@ -174,6 +174,11 @@ module _ (W E : ℕ → ℕ) (n : ℕ) (params : ℕ → ℕ) (less : (j : ℕ) 
   zero_light site Rest size k = omega arith
   zero_light site Zeros size k = omega arith
 
+  source_light : (source : Source) (slot : ℕ) (k : Steps) → weight_of W (source_step t source slot k) ≤ 8 + (8 * source_nodes source + weight_of W k)
+  source_light (Expression span e) slot k = let y = nodes_are e in omega (arith, y)
+  source_light (FromCell cell) slot k = omega arith
+  source_light Left slot k = omega arith
+
   -- beside a field's start and its parts
   shape_light : (L slot site m inner : ℕ) (needed : Bool) (element : Element) (extent : Extent) (k : Steps) → ShapePlaced n params R L t element extent → 1 ≤ m → element_nodes element + extent_nodes extent ≤ inner
       → weight_of W (shape_step t element extent needed slot site k) + (7 + (17 * m + 8 * (inner - (element_nodes element + extent_nodes extent)))) ≤ as_array extent (32 * m + (8 * inner + of_named E element)) + weight_of W k
@@ -181,6 +186,7 @@ module _ (W E : ℕ → ℕ) (n : ℕ) (params : ℕ → ℕ) (less : (j : ℕ) 
   shape_light L slot site m inner needed element (Filling size step) k h s i = let x = filling_light L site (constant_of size) step element size k h.1.1.0 in omega (arith, x, s, i)
   shape_light L slot site m inner needed element (OnceFilling size step) k h s i = let x = once_filling_light L site (constant_of size) step element size k h.1.1.0 in omega (arith, x, s, i)
   shape_light L slot site m inner needed element (UpToZero size) k h s i = let x = zero_light site element size k in omega (arith, x, s, i)
+  shape_light L slot site m inner needed element (Given source) k h s i = let x = source_light source slot k in omega (arith, x, s, i)
 
   copied_light : (site : ℕ) (o : Option ℕ) (w : CopyOut) (size : Term) (k : Steps) → weight_of W (copied_step t o w size site k) ≤ 67 + (8 * measure size + weight_of W k)
   copied_light site None w size k = let y = nodes_are size in omega (arith, y)
@@ -193,6 +199,7 @@ module _ (W E : ℕ → ℕ) (n : ℕ) (params : ℕ → ℕ) (less : (j : ℕ) 
   content_light L slot site m inner needed element (Filling size step) (Some w) k h s i = let x = copied_light site (constant_of size) w size k in omega (arith, x, s, i)
   content_light L slot site m inner needed element (OnceFilling size step) (Some w) k h s i = shape_light L slot site m inner needed element (OnceFilling size step) k h s i
   content_light L slot site m inner needed element (UpToZero size) (Some w) k h s i = shape_light L slot site m inner needed element (UpToZero size) k h s i
+  content_light L slot site m inner needed element (Given source) (Some w) k h s i = shape_light L slot site m inner needed element (Given source) k h s i
 
   fields_light : (D site L : ℕ) (fs : List Field) → FieldsPlaced n params R D L t fs → Each (λ f. HasParts f.parts) fs → weight_of W (fields_steps t site L fs) ≤ 1 + module_weight E fs
   fields_light D site L [] h w = omega arith

@@ -7,7 +7,7 @@ use Rattle.td_core.specs.WellFormed.{OfSome, EachField, IsFieldWhole}
 use Rattle.td_lower_blocks.specs.Tops.{copy_cells, fields_cells, default_cells, cases_cells, body_cells, bits_end, parts_bits, fields_bits, default_bits, cases_bits, body_bits}
 use Rattle.td_verify_lowered.proofs.Fit.{BitsFit}
 use Rattle.td_verify_lowered.specs.Modules.{IsAdmissible}
-use Rattle.td_verify_lowered.proofs.Fitting.{parts_low, buffer_low, parts_fit}
+use Rattle.td_verify_lowered.proofs.Fitting.{parts_low, extent_low, buffer_low, parts_fit}
 use Rattle.td_num.proofs.Lists.{each_at}
 
 -- cells and buffers that fields name
@@ -19,7 +19,7 @@ module _ (ds : List TypeDef) (d : TypeDef) where
   fields_within : (fs : List Field) → Each (IsFieldCopying ds d) fs → fields_cells fs ≤ length d.cells + length d.buffers
   fields_within [] h = omega arith
   fields_within (f ∷ fs) h =
-      let x = parts_low (length d.cells) f.parts h.0.actions in let y = copy_within f f.copy h.0.copy in let z = fields_within fs h.1 in omega (arith, x, y, z)
+      let x = parts_low (length d.cells) f.parts h.0.actions in let y = copy_within f f.copy h.0.copy in let u = extent_low (length d.cells) f.extent h.0.source in let z = fields_within fs h.1 in omega (arith, x, y, u, z)
 
   cases_within : (cs : List Case) → Each (λ c. Each (IsFieldCopying ds d) c.fields) cs → cases_cells cs ≤ length d.cells + length d.buffers
   cases_within [] h = omega arith

@@ -8,7 +8,7 @@ use Rattle.td_verify.specs.Operands.{IsWidth}
 use Rattle.td_lower_blocks.specs.Block.{Block, Done, Then, Window}
 use Rattle.td_verify_lowered.specs.Nesting.{Outside, InWindow, Takes, Nests, IsFit, Fits, IsCalm, Busy, weight}
 use Rattle.td_verify_lowered.specs.Laws.{NotBusy}
-use Rattle.td_lower_blocks.specs.Constructs.{Steps, End, Start, Place, Skipped, Number, Listed, Part, Test, Act, Named, AllBytes, AllZeros, ZeroEnd, Copied, Never, Arguments, BySize, ByConstant, Inner, Nothing, Evenly, Exactly, Uneven, All, Zeroes, OneCall, OneListed, EachCall, EachListed, CopyAll, listed, inner, steps, Cases, Case, Default, NoDefault, cases, Body, Struct, Casetype, Where, body}
+use Rattle.td_lower_blocks.specs.Constructs.{Steps, End, Start, Place, Skipped, Number, Listed, Part, Computed, Kept, Remaining, Test, Act, Named, AllBytes, AllZeros, ZeroEnd, Copied, Never, Arguments, BySize, ByConstant, Inner, Nothing, Evenly, Exactly, Uneven, All, Zeroes, OneCall, OneListed, EachCall, EachListed, CopyAll, listed, inner, steps, Cases, Case, Default, NoDefault, cases, Body, Struct, Casetype, Where, body}
 use Rattle.td_verify_lowered.specs.Weights.{inner_weight, weight_of, cases_weight, body_weight, least_of, cases_least, body_least}
 use Rattle.td_verify_lowered.specs.Good.{IsSiteOf, IsCallable, IsRead, IsCopyOut, GoodInner, Good, GoodCases, GoodBody}
 use Rattle.td_verify_lowered.proofs.Values.{nests_value, busy_value, fits_value, weight_value, nests_values, busy_values, fits_values, weight_values, nests_tested, busy_tested, fits_tested, weight_tested, fit_fail, fit_const, fit_op, nests_acts, calm_acts, fits_acts, weight_acts}
@@ -43,6 +43,9 @@ nests_steps c depth busy n (Skipped width site k) g = (tt, nests_steps c depth b
 nests_steps c depth busy n (Number slot order width site k) g = (tt, nests_steps c depth busy n k g.1)
 nests_steps c depth busy n (Listed slot order width set site t k) g = (tt, (tt, (tt, nests_steps c depth busy n k g.3)))
 nests_steps c depth busy n (Part slot unit low width k) g = (tt, nests_steps c depth busy n k g.4)
+nests_steps c depth busy n (Computed t slot e k) g = nests_value (NotBusy busy n) Outside false t e _ (tt, nests_steps c depth busy n k g.3)
+nests_steps c depth busy n (Kept slot cell k) g = (tt, nests_steps c depth busy n k g.2)
+nests_steps c depth busy n (Remaining slot k) g = (tt, nests_steps c depth busy n k g.1)
 nests_steps c depth busy n (Test t site e k) g = nests_tested (NotBusy busy n) Outside false t e 4 site (steps k) (nests_steps c depth busy n k g.3)
 nests_steps c depth busy n (Act t site a k) g = (nests_acts (NotBusy busy n) Outside t site a Done tt, nests_steps c depth busy n k g.2)
 nests_steps c depth busy n (Named t routine cells site args k) g = nests_values (NotBusy busy n) Outside false t args _ (tt, nests_steps c depth busy n k g.2)
@@ -117,6 +120,9 @@ fits_steps c depth busy n (Skipped width site k) g = (record { registers = tt; t
 fits_steps c depth busy n (Number slot order width site k) g = (fit_fetch c depth n slot order width site g.0, fits_steps c depth busy n k g.1)
 fits_steps c depth busy n (Listed slot order width set site t k) g = fits_listed c depth n slot order width set site t (steps k) g.0 g.1 g.2 (fits_steps c depth busy n k g.3)
 fits_steps c depth busy n (Part slot unit low width k) g = (record { registers = (g.0, g.1); tables = (tt, tt); operands = (g.2, g.3); calls = tt }, fits_steps c depth busy n k g.4)
+fits_steps c depth busy n (Computed t slot e k) g = fits_value c depth n t e _ g.2 (fit_op c depth n slot t 6 t g.1 g.0 g.0 (omega arith), fits_steps c depth busy n k g.3)
+fits_steps c depth busy n (Kept slot cell k) g = (record { registers = g.0; tables = (g.1, tt); operands = tt; calls = tt }, fits_steps c depth busy n k g.2)
+fits_steps c depth busy n (Remaining slot k) g = (record { registers = g.0; tables = (tt, tt); operands = tt; calls = tt }, fits_steps c depth busy n k g.1)
 fits_steps c depth busy n (Test t site e k) g = fits_tested c depth n t e 4 site (steps k) g.0 g.1 (omega arith) g.2 (fits_steps c depth busy n k g.3)
 fits_steps c depth busy n (Act t site a k) g = (fits_acts c depth n t site a Done g.0 g.1 tt, fits_steps c depth busy n k g.2)
 fits_steps c depth busy n (Named t routine cells site args k) g = fits_values c depth n t args _ g.1 (fit_call c depth n t routine cells site (length args) g.0, fits_steps c depth busy n k g.2)
@@ -160,6 +166,9 @@ busy_steps c depth busy least n (Skipped width site k) te g h = inl (wide width 
 busy_steps c depth busy least n (Number slot order width site k) te g h = inl (wide width g.0.width_is)
 busy_steps c depth busy least n (Listed slot order width set site t k) te g h = inl (wide width g.0.width_is)
 busy_steps c depth busy least n (Part slot unit low width k) te g h = inr (busy_steps c depth busy least n k te g.4 h)
+busy_steps c depth busy least n (Computed t slot e k) te g h = busy_value (NotBusy busy n) t e _ (inr (busy_steps c depth busy least n k te g.3 h))
+busy_steps c depth busy least n (Kept slot cell k) te g h = inr (busy_steps c depth busy least n k te g.2 h)
+busy_steps c depth busy least n (Remaining slot k) te g h = inr (busy_steps c depth busy least n k te g.1 h)
 busy_steps c depth busy least n (Test t site e k) te g h = busy_tested (NotBusy busy n) t e 4 site (steps k) (busy_steps c depth busy least n k te g.3 h)
 busy_steps c depth busy least n (Act t site a k) te g h = (calm_acts t site a Done tt, busy_steps c depth busy least n k te g.2 h)
 busy_steps c depth busy least n (Named t routine cells site args k) te g h =
@@ -208,6 +217,9 @@ weight_steps c depth busy W ws n (Skipped width site k) b g = let h = weight_ste
 weight_steps c depth busy W ws n (Number slot order width site k) b g = let h = weight_steps c depth busy W ws n k b g.1 in omega (arith, h)
 weight_steps c depth busy W ws n (Listed slot order width set site t k) b g = let h = weight_steps c depth busy W ws n k b g.3 in omega (arith, h)
 weight_steps c depth busy W ws n (Part slot unit low width k) b g = let h = weight_steps c depth busy W ws n k b g.4 in omega (arith, h)
+weight_steps c depth busy W ws n (Computed t slot e k) b g = let h = weight_steps c depth busy W ws n k b g.3 in let x = weight_value ws t e (Then (i.Op slot 6 t t) (steps k)) in omega (arith, h, x)
+weight_steps c depth busy W ws n (Kept slot cell k) b g = let h = weight_steps c depth busy W ws n k b g.2 in omega (arith, h)
+weight_steps c depth busy W ws n (Remaining slot k) b g = let h = weight_steps c depth busy W ws n k b g.1 in omega (arith, h)
 weight_steps c depth busy W ws n (Test t site e k) b g = let h = weight_steps c depth busy W ws n k b g.3 in let x = weight_tested ws t e 4 site (steps k) in omega (arith, h, x)
 weight_steps c depth busy W ws n (Act t site a k) b g = let h = weight_steps c depth busy W ws n k b g.2 in let x = weight_acts ws t site a Done in omega (arith, h, x)
 weight_steps c depth busy W ws n (Named t routine cells site args k) b g =

@@ -4,7 +4,7 @@ use Rattle.td_verify_lowered.specs.Imports.{Parts}
 use Rattle.td_ir.specs.Tables.{routine_of, site_of}
 use Rattle.td_verify.specs.Operands.{IsCellMap, IsWidth}
 use Rattle.td_lower_blocks.specs.Placed.{Reaches}
-use Rattle.td_lower_blocks.specs.Constructs.{Expr, Action, Finish, Assign, Read, If, Return, Abort, Steps, End, Start, Place, Skipped, Number, Listed, Part, Test, Act, Named, AllBytes, AllZeros, ZeroEnd, Copied, Never, Arguments, BySize, ByConstant, Inner, Nothing, Evenly, Exactly, Uneven, All, Zeroes, OneCall, OneListed, EachCall, EachListed, CopyAll, Cases, Case, Default, NoDefault, Body, Struct, Casetype, Where}
+use Rattle.td_lower_blocks.specs.Constructs.{Expr, Action, Finish, Assign, Read, If, Return, Abort, Steps, End, Start, Place, Skipped, Number, Listed, Part, Computed, Kept, Remaining, Test, Act, Named, AllBytes, AllZeros, ZeroEnd, Copied, Never, Arguments, BySize, ByConstant, Inner, Nothing, Evenly, Exactly, Uneven, All, Zeroes, OneCall, OneListed, EachCall, EachListed, CopyAll, Cases, Case, Default, NoDefault, Body, Struct, Casetype, Where}
 
 -- arguments, each in its register from t on
 abbrev pub AllReach : ℕ → ℕ → List Expr → Type 0
@@ -65,6 +65,9 @@ Good c depth busy n (Skipped width site k) = IsWidth width × (IsSiteOf c n site
 Good c depth busy n (Number slot order width site k) = IsRead c n slot order width site × Good c depth busy n k
 Good c depth busy n (Listed slot order width set site t k) = IsRead c n slot order width site × (t < (routine_of c n).registers) × (set < length c.sets) × Good c depth busy n k
 Good c depth busy n (Part slot unit low width k) = (slot < (routine_of c n).registers) × (unit < (routine_of c n).registers) × (low + width ≤ 64) × (1 ≤ width) × Good c depth busy n k
+Good c depth busy n (Computed t slot e k) = (t < (routine_of c n).registers) × (slot < (routine_of c n).registers) × Reaches (routine_of c n).registers t e × Good c depth busy n k
+Good c depth busy n (Kept slot cell k) = (slot < (routine_of c n).registers) × (cell < (routine_of c n).cells) × Good c depth busy n k
+Good c depth busy n (Remaining slot k) = (slot < (routine_of c n).registers) × Good c depth busy n k
 Good c depth busy n (Test t site e k) = (t < (routine_of c n).registers) × Reaches (routine_of c n).registers t e × (IsSiteOf c n site) × Good c depth busy n k
 Good c depth busy n (Act t site a k) = Does (routine_of c n).registers (routine_of c n).cells t a × (IsSiteOf c n site) × Good c depth busy n k
 Good c depth busy n (Named t routine cells site args k) = IsCallable c depth n t routine cells site (length args) × AllReach (routine_of c n).registers t args × Good c depth busy n k

@@ -1,6 +1,6 @@
 -- What constructs weigh and the least bytes that they take, told of them before they are code (own rule).
 use Rattle.std.specs.Prelude.{ℕ, ◌+◌, ◌*◌, min, List, [], ◌∷◌}
-use Rattle.td_lower_blocks.specs.Constructs.{Expr, Lit, Slot, Binary, Not, Complement, ShiftLeft, Both, Either, Choice, Range, Action, Finish, Assign, Read, If, Return, Abort, Inner, Nothing, Evenly, Exactly, Uneven, All, Zeroes, OneCall, OneListed, EachCall, EachListed, CopyAll, Steps, End, Start, Place, Skipped, Number, Listed, Part, Test, Act, Named, AllBytes, AllZeros, ZeroEnd, Copied, Never, Arguments, BySize, ByConstant, Cases, Case, Default, NoDefault, Body, Struct, Casetype, Where}
+use Rattle.td_lower_blocks.specs.Constructs.{Expr, Lit, Slot, Binary, Not, Complement, ShiftLeft, Both, Either, Choice, Range, Action, Finish, Assign, Read, If, Return, Abort, Inner, Nothing, Evenly, Exactly, Uneven, All, Zeroes, OneCall, OneListed, EachCall, EachListed, CopyAll, Steps, End, Start, Place, Skipped, Number, Listed, Part, Computed, Kept, Remaining, Test, Act, Named, AllBytes, AllZeros, ZeroEnd, Copied, Never, Arguments, BySize, ByConstant, Cases, Case, Default, NoDefault, Body, Struct, Casetype, Where}
 
 -- Nodes and weight
 
@@ -51,6 +51,9 @@ weight_of W (Skipped width site k) = 8 + weight_of W k
 weight_of W (Number slot order width site k) = 8 + weight_of W k
 weight_of W (Listed slot order width set site t k) = 8 + weight_of W k
 weight_of W (Part slot unit low width k) = 8 + weight_of W k
+weight_of W (Computed t slot e k) = 8 + (8 * nodes e + weight_of W k)
+weight_of W (Kept slot cell k) = 8 + weight_of W k
+weight_of W (Remaining slot k) = 8 + weight_of W k
 weight_of W (Test t site e k) = 4 + (8 * nodes e + weight_of W k)
 weight_of W (Act t site a k) = 4 + (8 * act_nodes a + weight_of W k)
 weight_of W (Named t routine cells site args k) = 8 + (8 * all_nodes args + (W routine + weight_of W k))
@@ -83,6 +86,9 @@ least_of least (Skipped width site k) = width + least_of least k
 least_of least (Number slot order width site k) = width + least_of least k
 least_of least (Listed slot order width set site t k) = width + least_of least k
 least_of least (Part slot unit low width k) = least_of least k
+least_of least (Computed t slot e k) = least_of least k
+least_of least (Kept slot cell k) = least_of least k
+least_of least (Remaining slot k) = least_of least k
 least_of least (Test t site e k) = least_of least k
 least_of least (Act t site a k) = least_of least k
 least_of least (Named t routine cells site args k) = least routine + least_of least k

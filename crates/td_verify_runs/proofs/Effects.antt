@@ -181,3 +181,4 @@ does c n b places pc (i.Copy size buffer site) s o h =
     (plain (Fails NotEnough site s.start s))
     (λ v. let l = fits s (reg s size) v in let m = min-le_left (reg s size) room in (tt, refl, record { takes = omega arith; within = l; around = o.around; outer = omega arith; ends = refl; cost = omega (arith, m) }))
     (λ v. (tt, stops (Straight 0 2) s o))
+does c n b places pc (i.Left into) s o h = (tt, refl, stays (Straight 0 1) s (with_reg s into (left s)) refl refl o refl refl refl)

@@ -216,5 +216,9 @@ pub fn step<W: Words, L: Ledger, C: Counter>(
             stream,
             steps,
         ),
+        Instr::Left { into } => {
+            regs[into as usize] = u64::from(stream.end() - stream.pos());
+            Effect::Goes(current.pc + 1)
+        }
     }
 }

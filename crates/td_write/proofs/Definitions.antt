@@ -8,7 +8,7 @@ use Rattle.td_meaning.specs.Meaning.{pick, extended}
 use Rattle.td_write_values.specs.Datum.{Datum, Sequence, data_of, list_of}
 use Rattle.td_write_values.specs.Bytes.{unit_type}
 use Rattle.td_write_values.specs.Spelling.{number_in}
-use Rattle.td_write_values.specs.Writing.{Tests, Written, Done, Refused, Writer, Later, after_writing, tested, bytes_written, list_written, items_written, shape_written, copied, field_written, fields_written, definition_written, writers_below}
+use Rattle.td_write_values.specs.Writing.{Tests, Claim, Written, Done, Refused, Writer, Later, after_writing, tested, bytes_written, list_written, items_written, shape_written, copied, field_written, fields_written, definition_written, writers_below}
 use Rattle.td_write.specs.Writes.{Passes}
 use Rattle.td_write.proofs.Totals.{total_followed}
 
@@ -65,7 +65,7 @@ module _ (tests : Tests) (sets : List (List ℕ)) (writers : ℕ → Writer) (ty
   unfolding fields_written
   fields_next fs later f env i p cells vs e = ap (λ gs. fields_written tests sets writers ty gs env places path i p cells vs) e
 
-  pub fields_end : (fs : List Field) (env : List ℕ) (i p : ℕ) (cells : List ℕ) (vs : List Datum) → fs ≡ [] → vs ≡ [] → fields_written tests sets writers ty fs env places path i p cells vs ≡ Done [] cells
+  pub fields_end : (fs : List Field) (env : List ℕ) (i p : ℕ) (cells : List ℕ) (vs : List Datum) → fs ≡ [] → vs ≡ [] → fields_written tests sets writers ty fs env places path i p cells vs ≡ Done [] cells []
   unfolding fields_written
   fields_end fs env i p cells vs e f = λ k. fields_written tests sets writers ty (e k) env places path i p cells (f k)
 
@@ -74,16 +74,17 @@ module _ (tests : Tests) (sets : List (List ℕ)) (writers : ℕ → Writer) (ty
   fields_left fs env i p cells vs rest v e f = λ k. fields_written tests sets writers ty (e k) env places path i p cells (f k)
 
   -- a field that isn't a unit, with its refinement and its action
-  pub whole_total : (o : Option NumberType) (f : Field) (env : List ℕ) (i : ℕ) (cells : List ℕ) (vs rest : List Datum) (v : Datum) (old new more last : List ℕ) (later : Later) → o ≡ None → vs ≡ v ∷ rest
-      → after_writing old (copied f.copy places (length old) (shape_written tests sets writers f.element f.extent env places (path ++ i ∷ []) (length old) cells v)) ≡ Done new more
-      → Passes (tests.parts ty (length old) (number_in f.element f.extent v) f.parts env places (length new) more).ending last
-      → after_writing old (field_written tests sets writers ty o f env places path i (length old) cells vs later) ≡ after_writing new (later (extended env (number_in f.element f.extent v) f.parts) (i + 1) (length new) last rest)
-  whole_total o f env i cells vs rest v old new more last later e split shape passes =
-      let n = number_in f.element f.extent v in
+  pub whole_total : (o : Option NumberType) (f : Field) (env : List ℕ) (i : ℕ) (cells : List ℕ) (vs rest : List Datum) (v : Datum) (old new more last : List ℕ) (before claims : List Claim) (later : Later) → o ≡ None → vs ≡ v ∷ rest
+      → after_writing old before (copied f.copy places (length old) (shape_written tests sets writers f.element f.extent env places (path ++ i ∷ []) (length old) cells v)) ≡ Done new more claims
+      → Passes (tests.parts ty (length old) (number_in tests.value f.element f.extent env places cells v) f.parts env places (length new) more).ending last
+      → after_writing old before (field_written tests sets writers ty o f env places path i (length old) cells vs later)
+      ≡ after_writing new claims (later (extended env (number_in tests.value f.element f.extent env places cells v) f.parts) (i + 1) (length new) last rest)
+  whole_total o f env i cells vs rest v old new more last before claims later e split shape passes =
+      let n = number_in tests.value f.element f.extent env places cells v in
       let at = path ++ i ∷ [] in
       let next : suc i ≡ i + 1 = omega arith in
-      (λ k. after_writing old (field_written tests sets writers ty (e k) f env places path i (length old) cells (split k) later))
-      ∙ total_followed old new more (copied f.copy places (length old) (shape_written tests sets writers f.element f.extent env places at (length old) cells v))
+      (λ k. after_writing old before (field_written tests sets writers ty (e k) f env places path i (length old) cells (split k) later))
+      ∙ total_followed old new more before claims (copied f.copy places (length old) (shape_written tests sets writers f.element f.extent env places at (length old) cells v))
       (λ q cells. tested (tests.parts ty (length old) n f.parts env places q cells).ending at (λ cells. later (extended env n f.parts) (suc i) q cells rest)) shape
-      ∙ ap (after_writing new) (passes at (λ cells. later (extended env n f.parts) (suc i) (length new) cells rest))
-      ∙ ap (λ k. after_writing new (later (extended env n f.parts) k (length new) last rest)) next
+      ∙ ap (after_writing new claims) (passes at (λ cells. later (extended env n f.parts) (suc i) (length new) cells rest))
+      ∙ ap (λ k. after_writing new claims (later (extended env n f.parts) k (length new) last rest)) next

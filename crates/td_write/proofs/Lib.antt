@@ -1,5 +1,6 @@
 pub mod Digits
 pub mod Totals
+pub mod Settled
 pub mod Definitions
 pub mod Listed
 pub mod Pieces

@@ -7,7 +7,7 @@ use Rattle.td_core.specs.declared.outcome.TraceFrame.{TraceFrame}
 use Rattle.td_core.specs.Outcome.{Accepted, Rejected}
 use Rattle.td_write_values.specs.Datum.{Datum, Number, Sequence, Bytes, Empty}
 use Rattle.td_write_values.specs.Bytes.{fits}
-use Rattle.td_write_values.specs.Writing.{Tests, Written, Done, Refused, after_writing, wanted, tested, has_room, parts_written}
+use Rattle.td_write_values.specs.Writing.{Tests, Written, Refused, wanted, tested, has_room, parts_written}
 use Rattle.td_write.specs.Writes.{IsNumber}
 
 module _ (tests : Tests) (t : NumberType) (part : Part) (parts : List Part) (env places path : List ℕ) (i start : ℕ) (cells : List ℕ) (go : List ℕ → List ℕ → ℕ → List ℕ → List Datum → Written) where
@@ -65,7 +65,3 @@ parts_none tests t ps env places path i start cells vs go e = ap (λ qs. parts_w
 
 pub all_left : (first : ℕ) (xs env : List ℕ) → xs ≡ env → take (length xs - first) (drop first xs) ≡ drop first env
 all_left first xs env e = ap (λ n. take n (drop first xs)) (sym (length-drop first xs)) ∙ take-length (drop first xs) ∙ ap (drop first) e
-
-pub twice_after : (a b : List ℕ) (w : Written) → after_writing a (after_writing b w) ≡ after_writing (a ++ b) w
-twice_after a b (Done s cells) = λ i. Done (sym (append_assoc a b s) i) cells
-twice_after a b (Refused rule path) = refl

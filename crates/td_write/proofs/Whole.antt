@@ -13,7 +13,7 @@ use Rattle.td_write_values.specs.declared.error.WriteError.TheVariants as error
 use Rattle.td_write_values.specs.declared.limits.TheConstants.{MOST_WRITTEN}
 use Rattle.td_write_values.specs.Datum.{Datum}
 use Rattle.td_write_values.specs.Spelling.{spelling}
-use Rattle.td_write_values.specs.Writing.{Tests, Written, Done, Refused, writers_below, writing, in_machine, whole}
+use Rattle.td_write_values.specs.Writing.{Tests, Written, Done, Refused, settled, writers_below, writing, in_machine, whole}
 use Rattle.td_write_spells.specs.Laws.{IsExact, FailsFor, WritingIsExact, KindsAreAdmitted}
 use Rattle.td_write_fits.specs.Laws.{WritingIsInRange}
 use Rattle.td_write.specs.Answers.{IsWritable, IsAppended, IsCause, IsNowhere, Unless}
@@ -21,7 +21,7 @@ use Rattle.td_write.proofs.Definitions.{writers_past}
 
 module _ (m : Module) (entry : Entry) (args cells : List ℕ) (v : Datum) where
   abbrev at_place : Tests → ℕ → Written
-  at_place tests place = writers_below tests m.listed m.definitions (length m.definitions) place args (places_from 0 (length cells)) cells [] 0 v
+  at_place tests place = settled 0 (writers_below tests m.listed m.definitions (length m.definitions) place args (places_from 0 (length cells)) cells [] 0 v)
 
   -- an entry point's definition, by its place
   pub writing_at : (tests : Tests) (place : ℕ) → slice_get m.entries entry.number ≡ Some place → writing tests m entry args cells v ≡ at_place tests place
@@ -31,12 +31,12 @@ module _ (m : Module) (entry : Entry) (args cells : List ℕ) (v : Datum) where
   no_entry tests e =
       let same : length m.definitions ≤ length m.definitions = omega arith in
       ap (λ o. at_place tests (entry_place o (length m.definitions))) e
-      ∙ writers_past tests m.listed m.definitions (length m.definitions) (length m.definitions) args (places_from 0 (length cells)) cells [] 0 v same
+      ∙ ap (settled 0) (writers_past tests m.listed m.definitions (length m.definitions) (length m.definitions) args (places_from 0 (length cells)) cells [] 0 v same)
 
   no_definition : (tests : Tests) (place : ℕ) → slice_get m.entries entry.number ≡ Some place → slice_get m.definitions place ≡ None → writing tests m entry args cells v ≡ Refused (Broken Impossible) []
   no_definition tests place e none =
       writing_at tests place e
-      ∙ writers_past tests m.listed m.definitions (length m.definitions) place args (places_from 0 (length cells)) cells [] 0 v (past m.definitions place none)
+      ∙ ap (settled 0) (writers_past tests m.listed m.definitions (length m.definitions) place args (places_from 0 (length cells)) cells [] 0 v (past m.definitions place none))
     where
       past : (ds : List TypeDef) (n : ℕ) → slice_get ds n ≡ None → length ds ≤ n
       past [] n e = omega arith
@@ -63,26 +63,26 @@ module _ (m : Module) (entry : Entry) (args cells : List ℕ) (v : Datum) where
   abbrev ending : List ℕ → Ending
   ending bytes = (meaning m entry args (opened m entry cells) bytes).ending
 
-  exact : WritingIsExact → KindsAreAdmitted → IsWritable m → IsExact (writing whole m entry args (opened m entry cells) v) (spelling m entry args v) ending
+  exact : WritingIsExact → KindsAreAdmitted → IsWritable m → IsExact (writing whole m entry args (opened m entry cells) v) (spelling m entry args (opened m entry cells) v) ending
   exact law kinds h = law m entry args (opened m entry cells) v h.copying (kinds m h.formed h.kinds)
 
   -- what was written
-  pub appended : WritingIsExact → KindsAreAdmitted → IsWritable m → (bytes last old new : List ℕ) (answer : Outcome) → writing whole m entry args (opened m entry cells) v ≡ Done bytes last → new ≡ old ++ bytes
+  pub appended : WritingIsExact → KindsAreAdmitted → IsWritable m → (bytes last old new : List ℕ) (answer : Outcome) → writing whole m entry args (opened m entry cells) v ≡ Done bytes last [] → new ≡ old ++ bytes
       → answer ≡ record { verdict = Accept (length bytes); trace = []; cells = take (length cells) last; copies = copies_by bytes (drop (length cells) last) } → IsAppended m entry args cells v old new answer
   appended law kinds h bytes last old new answer e grown is =
-      let x = subst (λ w. IsExact w (spelling m entry args v) ending) e (exact law kinds h) in
+      let x = subst (λ w. IsExact w (spelling m entry args (opened m entry cells) v) ending) e (exact law kinds h) in
       let says : outcome m entry args cells bytes ≡ outcome_of (length cells) bytes (Accepted (length bytes) last) = ap (outcome_of (length cells) bytes) x.1.1 in
       (bytes, (record { spelled = x.0; short = x.1.0; accepted = ap (λ (o : Outcome). o.verdict) says }, (grown, is ∙ sym says)))
 
   -- what was refused
   pub nowhere : WritingIsExact → KindsAreAdmitted → IsWritable m → (rule : WriteRule) (path : List ℕ) → writing whole m entry args (opened m entry cells) v ≡ Refused rule path → IsNowhere m entry args cells v
-  nowhere law kinds h rule path e bytes a = by rule (subst (λ w. IsExact w (spelling m entry args v) ending) e (exact law kinds h))
+  nowhere law kinds h rule path e bytes a = by rule (subst (λ w. IsExact w (spelling m entry args (opened m entry cells) v) ending) e (exact law kinds h))
     where
       fails : (reason : Reason) (o : Ending) → FailsFor reason o → (outcome_of (length cells) bytes o).verdict ≡ Accept (length bytes) → ⊥
       fails reason (Accepted q last) f e = f
       fails reason (Rejected other q trace last) f e = absurd (cc)
 
-      by : (rule : WriteRule) → IsExact (Refused rule path) (spelling m entry args v) ending → ⊥
+      by : (rule : WriteRule) → IsExact (Refused rule path) (spelling m entry args (opened m entry cells) v) ending → ⊥
       by Shape x = none-some bytes (sym x ∙ a.spelled)
       by Range x = none-some bytes (sym x ∙ a.spelled)
       by (Broken reason) x = fails reason (ending bytes) (x bytes a.spelled) a.accepted

@@ -26,7 +26,7 @@ pub record IsWritable (m : Module) : Type 0 where
 
 -- bytes spell a value within the limit, and the module accepts them to their end
 pub record IsAccepted (m : Module) (entry : Entry) (args cells : List ℕ) (v : Datum) (bytes : List ℕ) : Type 0 where
-  pub spelled : spelling m entry args v ≡ Some bytes
+  pub spelled : spelling m entry args (opened m entry cells) v ≡ Some bytes
   pub short : length bytes ≤ MOST_WRITTEN
   pub accepted : (outcome m entry args cells bytes).verdict ≡ Accept (length bytes)
 

@@ -1,10 +1,11 @@
 -- What a step of the writer does to what was written; of use below the writer alone.
-use Rattle.std.specs.Prelude.{◌≡◌, ◌≤◌, ℕ, List, length}
+use Rattle.std.specs.Prelude.{◌≡◌, ◌≤◌, ◌+◌, ℕ, List, length, map}
 use Rattle.td_write.specs.Imports.{Module}
 use Rattle.td_core.specs.Outcome.{Ending}
 use Rattle.td_write_values.specs.declared.limits.TheConstants.{MOST_WRITTEN}
 use Rattle.td_write_values.specs.Datum.{Datum, Number, Sequence, Bytes, Empty}
-use Rattle.td_write_values.specs.Writing.{Written, Done, Refused, Writer, after_writing, tested, writers_below, in_machine}
+use Rattle.td_write_values.specs.Writing.{Claim, Written, Done, Refused, Writer, after_writing, tested, writers_below, in_machine}
+use Rattle.td_write.specs.declared.walk.Claim.{Claim as Noted}
 use Rattle.td_write.specs.declared.halt.Halt.{Halt}
 use Rattle.td_write.specs.declared.halt.Halt.TheVariants as halt
 
@@ -12,15 +13,19 @@ use Rattle.td_write.specs.declared.halt.Halt.TheVariants as halt
 abbrev pub below : Module → ℕ → ℕ → Writer
 below m n = writers_below in_machine m.listed m.definitions n
 
--- all of it was written, behind what stood there
-pub record Wrote (w : Written) (old new path after cells : List ℕ) : Type 0 where
-  pub total : after_writing old w ≡ Done new cells
+-- what was said of ends
+abbrev pub claims_of : List Noted → List Claim
+claims_of noted = map (λ c. record { end = c.place + c.left; path = c.path.items }) noted
+
+-- all of it was written, behind what stood there, with what is said of ends
+pub record Wrote (w : Written) (old new path after cells : List ℕ) (before claims : List Claim) : Type 0 where
+  pub total : after_writing old before w ≡ Done new cells claims
   pub room : length new ≤ MOST_WRITTEN
   pub back : after ≡ path
 
 -- a part of it was written, and the rest is left
-pub record GoesOn (w rest : Written) (old new : List ℕ) : Type 0 where
-  pub total : after_writing old w ≡ after_writing new rest
+pub record GoesOn (w rest : Written) (old new : List ℕ) (before claims : List Claim) : Type 0 where
+  pub total : after_writing old before w ≡ after_writing new claims rest
 
 -- it is refused by the rule that stopped the writer, at the path that is at hand
 abbrev pub Halts : Halt → List ℕ → Written → Type 0

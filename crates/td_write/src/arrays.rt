@@ -3,9 +3,11 @@
 ghost use Rattle.std.specs.Prelude.{◌≤◌, length, IfOk, IfErr};
 ghost use Rattle.td_write_values.specs.Writing.{element_written, items_written, contents_written, shape_written, in_machine};
 ghost use Rattle.td_write_values.specs.declared.limits.TheConstants.{MOST_WRITTEN};
-ghost use Rattle.td_write.specs.Writes.{below, Wrote, Halts};
+ghost use Rattle.td_write.specs.Writes.{below, Wrote, Halts, claims_of};
 
+use crate::claims::settle;
 use crate::elements::{element_bytes, one_element};
+use crate::given::write_given;
 use crate::halt::Halt;
 use crate::leaves::{is_listed, write_bytes, write_zero_ended};
 use crate::numbers::is_byte;
@@ -31,11 +33,12 @@ pub fn shape(
     requires { length draft.old.out.items ≤ MOST_WRITTEN }
     ensures ok { IfOk result (λ _. Wrote
         (shape_written in_machine walk.now.m.now.listed (below walk.now.m.now walk.now.bound) element.now extent.now env.now walk.now.places.now draft.old.path.items (length draft.old.out.items) cells.old value.now)
-        draft.old.out.items draft.new.out.items draft.old.path.items draft.new.path.items cells.new) }
+        draft.old.out.items draft.new.out.items draft.old.path.items draft.new.path.items cells.new (claims_of draft.old.claims.items) (claims_of draft.new.claims.items)) }
     ensures err { IfErr result (λ h. Halts h draft.new.path.items
         (shape_written in_machine walk.now.m.now.listed (below walk.now.m.now walk.now.bound) element.now extent.now env.now walk.now.places.now draft.old.path.items (length draft.old.out.items) cells.old value.now)) }
 {
     let start = draft.out.len();
+    let first = draft.claims.len();
     match extent {
         Extent::Once => one_element(walk, element, value, env, cells, draft),
         Extent::Filling { size, step } => {
@@ -49,7 +52,7 @@ pub fn shape(
             if !divides(*step, size) || count as u64 != size {
                 return Err(Halt::Broken(WriteRule::Size));
             }
-            Ok(())
+            settle(walk.alloc, first, draft)
         }
         Extent::OnceFilling { size, step } => {
             let size = value_of(size, env);
@@ -60,6 +63,10 @@ pub fn shape(
             let count = draft.out.len() - start;
             if !equals(*step, size) || count as u64 != size {
                 return Err(Halt::Broken(WriteRule::Size));
+            }
+            match settle(walk.alloc, first, draft) {
+                Ok(_) => {}
+                Err(halt) => return Err(halt),
             }
             if !is_listed(walk.m.listed.as_slice(), element, value) {
                 return Err(Halt::Broken(WriteRule::Broken(Reason::Constraint)));
@@ -75,6 +82,7 @@ pub fn shape(
                 &mut draft.out,
             )
         }
+        Extent::Given(source) => write_given(walk.alloc, element, source, value, draft),
     }
 }
 
@@ -91,7 +99,7 @@ fn contents(
     requires { length draft.old.out.items ≤ MOST_WRITTEN }
     ensures ok { IfOk result (λ _. Wrote
         (contents_written in_machine walk.now.m.now.listed (below walk.now.m.now walk.now.bound) element.now env.now walk.now.places.now draft.old.path.items (length draft.old.out.items) cells.old value.now)
-        draft.old.out.items draft.new.out.items draft.old.path.items draft.new.path.items cells.new) }
+        draft.old.out.items draft.new.out.items draft.old.path.items draft.new.path.items cells.new (claims_of draft.old.claims.items) (claims_of draft.new.claims.items)) }
     ensures err { IfErr result (λ h. Halts h draft.new.path.items
         (contents_written in_machine walk.now.m.now.listed (below walk.now.m.now walk.now.bound) element.now env.now walk.now.places.now draft.old.path.items (length draft.old.out.items) cells.old value.now)) }
 {
@@ -119,7 +127,7 @@ fn items(
     requires { length draft.old.out.items ≤ MOST_WRITTEN }
     ensures ok { IfOk result (λ _. Wrote
         (items_written (element_written in_machine walk.now.m.now.listed (below walk.now.m.now walk.now.bound) element.now env.now walk.now.places.now) draft.old.path.items 0 (length draft.old.out.items) cells.old values.now)
-        draft.old.out.items draft.new.out.items draft.old.path.items draft.new.path.items cells.new) }
+        draft.old.out.items draft.new.out.items draft.old.path.items draft.new.path.items cells.new (claims_of draft.old.claims.items) (claims_of draft.new.claims.items)) }
     ensures err { IfErr result (λ h. Halts h draft.new.path.items
         (items_written (element_written in_machine walk.now.m.now.listed (below walk.now.m.now walk.now.bound) element.now env.now walk.now.places.now) draft.old.path.items 0 (length draft.old.out.items) cells.old values.now)) }
 {

@@ -3,7 +3,7 @@
 ghost use Rattle.std.specs.Prelude.{◌≡◌, ◌≤◌, [], IfOk, length, take, drop};
 ghost use Rattle.td_write.specs.Imports.{Accept};
 ghost use Rattle.td_core.specs.Outcome.{copies_by};
-ghost use Rattle.td_write_values.specs.Writing.{noted};
+ghost use Rattle.td_write_values.specs.Spelling.{noted};
 ghost use Rattle.td_write_values.specs.declared.limits.TheConstants.{MOST_WRITTEN};
 
 use std::alloc::{AllocError, Global};

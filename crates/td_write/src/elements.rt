@@ -3,7 +3,7 @@
 ghost use Rattle.std.specs.Prelude.{◌≤◌, length, IfOk, IfErr};
 ghost use Rattle.td_write_values.specs.Writing.{element_bytes, element_written, in_machine};
 ghost use Rattle.td_write_values.specs.declared.limits.TheConstants.{MOST_WRITTEN};
-ghost use Rattle.td_write.specs.Writes.{below, Wrote, Halts};
+ghost use Rattle.td_write.specs.Writes.{below, Wrote, Halts, claims_of};
 
 use crate::halt::Halt;
 use crate::leaves::{is_listed, write_bytes, write_number, write_unit, write_zeros};
@@ -29,7 +29,7 @@ pub fn one_element(
     requires { length draft.old.out.items ≤ MOST_WRITTEN }
     ensures ok { IfOk result (λ _. Wrote
         (element_written in_machine walk.now.m.now.listed (below walk.now.m.now walk.now.bound) element.now env.now walk.now.places.now draft.old.path.items (length draft.old.out.items) cells.old value.now)
-        draft.old.out.items draft.new.out.items draft.old.path.items draft.new.path.items cells.new) }
+        draft.old.out.items draft.new.out.items draft.old.path.items draft.new.path.items cells.new (claims_of draft.old.claims.items) (claims_of draft.new.claims.items)) }
     ensures err { IfErr result (λ h. Halts h draft.new.path.items
         (element_written in_machine walk.now.m.now.listed (below walk.now.m.now walk.now.bound) element.now env.now walk.now.places.now draft.old.path.items (length draft.old.out.items) cells.old value.now)) }
 {
@@ -57,7 +57,7 @@ pub(crate) fn element_bytes(
     requires { length draft.old.out.items ≤ MOST_WRITTEN }
     ensures ok { IfOk result (λ _. Wrote
         (element_bytes in_machine (below walk.now.m.now walk.now.bound) element.now env.now walk.now.places.now draft.old.path.items (length draft.old.out.items) cells.old value.now)
-        draft.old.out.items draft.new.out.items draft.old.path.items draft.new.path.items cells.new) }
+        draft.old.out.items draft.new.out.items draft.old.path.items draft.new.path.items cells.new (claims_of draft.old.claims.items) (claims_of draft.new.claims.items)) }
     ensures err { IfErr result (λ h. Halts h draft.new.path.items
         (element_bytes in_machine (below walk.now.m.now walk.now.bound) element.now env.now walk.now.places.now draft.old.path.items (length draft.old.out.items) cells.old value.now)) }
 {

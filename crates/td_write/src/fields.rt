@@ -4,7 +4,7 @@ ghost use Rattle.std.specs.Prelude.{◌≡◌, ◌≤◌, length, drop, IfOk, If
 ghost use Rattle.td_write_values.specs.Bytes.{unit_type};
 ghost use Rattle.td_write_values.specs.Writing.{Later, shape_written, copied, field_written, fields_written, in_machine};
 ghost use Rattle.td_write_values.specs.declared.limits.TheConstants.{MOST_WRITTEN};
-ghost use Rattle.td_write.specs.Writes.{below, Wrote, GoesOn, Halts};
+ghost use Rattle.td_write.specs.Writes.{below, Wrote, GoesOn, Halts, claims_of};
 
 use crate::arrays::shape;
 use crate::copies::note_copy;
@@ -31,7 +31,7 @@ pub fn counted(
     requires { length draft.old.out.items ≤ MOST_WRITTEN }
     ensures ok { IfOk result (λ _. Wrote
         (fields_written in_machine walk.now.m.now.listed (below walk.now.m.now walk.now.bound) ty fields.now args.now walk.now.places.now draft.old.path.items 0 (length draft.old.out.items) cells.old values.now)
-        draft.old.out.items draft.new.out.items draft.old.path.items draft.new.path.items cells.new) }
+        draft.old.out.items draft.new.out.items draft.old.path.items draft.new.path.items cells.new (claims_of draft.old.claims.items) (claims_of draft.new.claims.items)) }
     ensures err { IfErr result (λ h. Halts h draft.new.path.items
         (fields_written in_machine walk.now.m.now.listed (below walk.now.m.now walk.now.bound) ty fields.now args.now walk.now.places.now draft.old.path.items 0 (length draft.old.out.items) cells.old values.now)) }
 {
@@ -73,7 +73,7 @@ fn one_field(
     // what is left of the struct decides the whole of it
     ensures ok { IfOk result (λ next. (later : Later)
         → GoesOn (field_written in_machine walk.now.m.now.listed (below walk.now.m.now walk.now.bound) ty (unit_type field.now.element field.now.extent) field.now env.old.items walk.now.places.now draft.old.path.items left.now.index (length draft.old.out.items) cells.old (drop left.now.index left.now.values.now) later)
-        (later env.new.items next (length draft.new.out.items) cells.new (drop next left.now.values.now)) draft.old.out.items draft.new.out.items) }
+        (later env.new.items next (length draft.new.out.items) cells.new (drop next left.now.values.now)) draft.old.out.items draft.new.out.items (claims_of draft.old.claims.items) (claims_of draft.new.claims.items)) }
     ensures room { IfOk result (λ next. (length draft.new.out.items ≤ MOST_WRITTEN) × (draft.new.path.items ≡ draft.old.path.items)) }
     ensures err { IfErr result (λ h. (later : Later) → Halts h draft.new.path.items
         (field_written in_machine walk.now.m.now.listed (below walk.now.m.now walk.now.bound) ty (unit_type field.now.element field.now.extent) field.now env.old.items walk.now.places.now draft.old.path.items left.now.index (length draft.old.out.items) cells.old (drop left.now.index left.now.values.now) later)) }
@@ -88,12 +88,19 @@ fn one_field(
             }
             let value = &values[index];
             let start = draft.out.len() as u32;
+            let number = number_in(
+                &field.element,
+                &field.extent,
+                env.as_slice(),
+                walk.places,
+                cells,
+                value,
+            );
             draft.path.push(index)?;
             match content(walk, field, value, env.as_slice(), cells, draft) {
                 Ok(_) => {}
                 Err(halt) => return Err(halt),
             }
-            let number = number_in(&field.element, &field.extent, value);
             let end = draft.out.len() as u32;
             match test_parts(
                 walk,
@@ -126,7 +133,7 @@ fn content(
     requires { length draft.old.out.items ≤ MOST_WRITTEN }
     ensures ok { IfOk result (λ _. Wrote
         (copied field.now.copy walk.now.places.now (length draft.old.out.items) (shape_written in_machine walk.now.m.now.listed (below walk.now.m.now walk.now.bound) field.now.element field.now.extent env.now walk.now.places.now draft.old.path.items (length draft.old.out.items) cells.old value.now))
-        draft.old.out.items draft.new.out.items draft.old.path.items draft.new.path.items cells.new) }
+        draft.old.out.items draft.new.out.items draft.old.path.items draft.new.path.items cells.new (claims_of draft.old.claims.items) (claims_of draft.new.claims.items)) }
     ensures err { IfErr result (λ h. Halts h draft.new.path.items
         (copied field.now.copy walk.now.places.now (length draft.old.out.items) (shape_written in_machine walk.now.m.now.listed (below walk.now.m.now walk.now.bound) field.now.element field.now.extent env.now walk.now.places.now draft.old.path.items (length draft.old.out.items) cells.old value.now))) }
 {

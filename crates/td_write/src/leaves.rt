@@ -2,7 +2,7 @@
 
 ghost use Rattle.std.specs.Prelude.{◌≡◌, ◌≢◌, ◌≤◌, ℕ, List, [], length, IfOk, IfErr};
 ghost use Rattle.td_write_values.specs.Spelling.{is_zero, ends_in_zero};
-ghost use Rattle.td_write_values.specs.Writing.{Done, after_writing, up_to_zero_written, number_written, is_listed, bytes_written, zeros_written, unit_written, zero_ended_written, items_written};
+ghost use Rattle.td_write_values.specs.Writing.{Claim, Done, after_writing, up_to_zero_written, number_written, is_listed, bytes_written, zeros_written, unit_written, zero_ended_written, items_written};
 ghost use Rattle.td_write_values.specs.declared.limits.TheConstants.{MOST_WRITTEN};
 ghost use Rattle.td_write.specs.Writes.{Halts, Wrote};
 
@@ -21,9 +21,9 @@ use td_write_values::value::{Value, ValueKind};
 /// A number of a type.
 pub fn write_number(number_type: NumberType, value: &Value, out: &mut Vec<u8>) -> Result<(), Halt>
     requires { length out.old.items ≤ MOST_WRITTEN }
-    ensures ok { IfOk result (λ _. (path cells : List ℕ)
-        → after_writing out.old.items (number_written number_type path (length out.old.items) cells value.now)
-        ≡ Done out.new.items cells) }
+    ensures ok { IfOk result (λ _. (path cells : List ℕ) (claims : List Claim)
+        → after_writing out.old.items claims (number_written number_type path (length out.old.items) cells value.now)
+        ≡ Done out.new.items cells claims) }
     ensures room { IfOk result (λ _. length out.new.items ≤ MOST_WRITTEN) }
     ensures err { IfErr result (λ h. (path cells : List ℕ) → Halts h path
         (number_written number_type path (length out.old.items) cells value.now)) }
@@ -58,9 +58,9 @@ pub fn is_listed(listed: &[Items<u64>], element: &Element, value: &Value) -> boo
 /// Bytes as they are.
 pub fn write_bytes(value: &Value, out: &mut Vec<u8>) -> Result<(), Halt>
     requires { length out.old.items ≤ MOST_WRITTEN }
-    ensures ok { IfOk result (λ _. (path cells : List ℕ)
-        → after_writing out.old.items (bytes_written path (length out.old.items) cells value.now)
-        ≡ Done out.new.items cells) }
+    ensures ok { IfOk result (λ _. (path cells : List ℕ) (claims : List Claim)
+        → after_writing out.old.items claims (bytes_written path (length out.old.items) cells value.now)
+        ≡ Done out.new.items cells claims) }
     ensures room { IfOk result (λ _. length out.new.items ≤ MOST_WRITTEN) }
     ensures err { IfErr result (λ h. (path cells : List ℕ) → Halts h path
         (bytes_written path (length out.old.items) cells value.now)) }
@@ -81,9 +81,9 @@ pub fn write_bytes(value: &Value, out: &mut Vec<u8>) -> Result<(), Halt>
 /// As many zeros as the number says.
 pub(crate) fn write_zeros(value: &Value, out: &mut Vec<u8>) -> Result<(), Halt>
     requires { length out.old.items ≤ MOST_WRITTEN }
-    ensures ok { IfOk result (λ _. (path cells : List ℕ)
-        → after_writing out.old.items (zeros_written path (length out.old.items) cells value.now)
-        ≡ Done out.new.items cells) }
+    ensures ok { IfOk result (λ _. (path cells : List ℕ) (claims : List Claim)
+        → after_writing out.old.items claims (zeros_written path (length out.old.items) cells value.now)
+        ≡ Done out.new.items cells claims) }
     ensures room { IfOk result (λ _. length out.new.items ≤ MOST_WRITTEN) }
     ensures err { IfErr result (λ h. (path cells : List ℕ) → Halts h path
         (zeros_written path (length out.old.items) cells value.now)) }
@@ -96,7 +96,7 @@ pub(crate) fn write_zeros(value: &Value, out: &mut Vec<u8>) -> Result<(), Halt>
 
 /// No bytes. Takes no memory.
 pub(crate) fn write_unit(value: &Value) -> Result<(), Halt>
-    ensures ok { IfOk result (λ _. (path cells : List ℕ) → unit_written path cells value.now ≡ Done [] cells) }
+    ensures ok { IfOk result (λ _. (path cells : List ℕ) → unit_written path cells value.now ≡ Done [] cells []) }
     ensures err { IfErr result (λ h. (path cells : List ℕ) → Halts h path
         (unit_written path cells value.now)) }
     ensures broken { IfErr result (λ h. h ≢ Halt.NoMemory) }
@@ -141,9 +141,9 @@ fn write_numbers(
     out: &mut Vec<u8>,
 ) -> Result<(), Halt>
     requires { length out.old.items ≤ MOST_WRITTEN }
-    ensures ok { IfOk result (λ _. (cells : List ℕ) → Wrote
+    ensures ok { IfOk result (λ _. (cells : List ℕ) (claims : List Claim) → Wrote
         (items_written (number_written number_type) path.old.items 0 (length out.old.items) cells values.now)
-        out.old.items out.new.items path.old.items path.new.items cells) }
+        out.old.items out.new.items path.old.items path.new.items cells claims claims) }
     ensures err { IfErr result (λ h. (cells : List ℕ) → Halts h path.new.items
         (items_written (number_written number_type) path.old.items 0 (length out.old.items) cells values.now)) }
 {
@@ -172,9 +172,9 @@ fn write_up_to_zero(
     out: &mut Vec<u8>,
 ) -> Result<(), Halt>
     requires { length out.old.items ≤ MOST_WRITTEN }
-    ensures ok { IfOk result (λ _. (cells : List ℕ) → Wrote
+    ensures ok { IfOk result (λ _. (cells : List ℕ) (claims : List Claim) → Wrote
         (up_to_zero_written number_type size path.old.items (length out.old.items) cells value.now)
-        out.old.items out.new.items path.old.items path.new.items cells) }
+        out.old.items out.new.items path.old.items path.new.items cells claims claims) }
     ensures err { IfErr result (λ h. (cells : List ℕ) → Halts h path.new.items
         (up_to_zero_written number_type size path.old.items (length out.old.items) cells value.now)) }
 {
@@ -209,9 +209,9 @@ pub(crate) fn write_zero_ended(
     out: &mut Vec<u8>,
 ) -> Result<(), Halt>
     requires { length out.old.items ≤ MOST_WRITTEN }
-    ensures ok { IfOk result (λ _. (cells : List ℕ) → Wrote
+    ensures ok { IfOk result (λ _. (cells : List ℕ) (claims : List Claim) → Wrote
         (zero_ended_written element.now size path.old.items (length out.old.items) cells value.now)
-        out.old.items out.new.items path.old.items path.new.items cells) }
+        out.old.items out.new.items path.old.items path.new.items cells claims claims) }
     ensures err { IfErr result (λ h. (cells : List ℕ) → Halts h path.new.items
         (zero_ended_written element.now size path.old.items (length out.old.items) cells value.now)) }
 {

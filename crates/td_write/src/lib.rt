@@ -6,9 +6,11 @@
 mod arrays;
 mod bodies;
 mod bytes;
+mod claims;
 mod copies;
 mod elements;
 mod fields;
+mod given;
 mod halt;
 mod leaves;
 mod numbers;

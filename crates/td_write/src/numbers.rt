@@ -3,14 +3,18 @@
 ghost use Rattle.std.specs.Prelude.{◌≡◌, ◌≤◌, nat_eq, List, length, IfOk, IfErr, ◌*◌, ◌-◌, ◌^◌, ◌<◌, nat_le, MatchOption, Some, None, false, true};
 ghost use Rattle.td_core.specs.Formed.{bits_bound};
 ghost use Rattle.td_write_values.specs.Datum as datum;
-ghost use Rattle.td_write_values.specs.Spelling.{number_in};
+ghost use Rattle.td_meaning.specs.Words64.{value_of};
+ghost use Rattle.td_write_values.specs.Spelling.{source_number, number_in};
 ghost use Rattle.td_write_values.specs.Writing.{value_count, values_count};
 ghost use Rattle.td_write.specs.Writes.{IsNumber};
 ghost use Rattle.td_write_values.specs.Bytes.{fits, unit_type, is_byte, at_bits, unit_number, are_bits_of, makes_unit};
 
 use crate::halt::Halt;
-use td_core::module::{Bits, Element, Extent, Field, Part};
+use td_core::module::{Bits, Element, Extent, Field, Part, Source};
+use td_meaning::actions::cell_at;
 use td_meaning::bit_fields::bits_of;
+use td_meaning::expressions::value_of;
+use td_meaning::parameters::place_at;
 use td_num::number::{ByteOrder, NumberType, Width};
 use td_write_values::error::WriteRule;
 use td_write_values::value::{Value, ValueKind};
@@ -54,6 +58,7 @@ pub(crate) fn unit_type(element: &Element, extent: &Extent) -> Option<NumberType
             Extent::Filling { .. } => None,
             Extent::OnceFilling { .. } => None,
             Extent::UpToZero { .. } => None,
+            Extent::Given(_) => None,
         },
         Element::Listed { .. } => None,
         Element::Named { .. } => None,
@@ -157,9 +162,38 @@ pub fn number_of(value: &Value) -> Result<u64, Halt>
     }
 }
 
-/// The number of an enum, which its refinement and action see; else 0.
-pub fn number_in(element: &Element, extent: &Extent, value: &Value) -> u64
-    ensures { result ≡ number_in element.now extent.now value.now }
+/// The number of a field without bytes.
+fn source_number(
+    source: &Source,
+    env: &[u64],
+    places: &[usize],
+    cells: &[u64],
+    value: &Value,
+) -> u64
+    ensures { result ≡ source_number value_of source.now env.now places.now cells.now value.now }
+{
+    match source {
+        Source::Expression { value, .. } => value_of(value, env),
+        Source::Cell(cell) => cell_at(cells, place_at(places, *cell)),
+        Source::Left => match &value.kind {
+            ValueKind::Number(number) => *number,
+            ValueKind::List(_) => 0,
+            ValueKind::Bytes(_) => 0,
+            ValueKind::Empty => 0,
+        },
+    }
+}
+
+/// The number of an enum or of a field without bytes, which its refinement and action see; else 0.
+pub fn number_in(
+    element: &Element,
+    extent: &Extent,
+    env: &[u64],
+    places: &[usize],
+    cells: &[u64],
+    value: &Value,
+) -> u64
+    ensures { result ≡ number_in value_of element.now extent.now env.now places.now cells.now value.now }
 {
     match element {
         Element::Listed { .. } => match extent {
@@ -172,8 +206,15 @@ pub fn number_in(element: &Element, extent: &Extent, value: &Value) -> u64
             Extent::Filling { .. } => 0,
             Extent::OnceFilling { .. } => 0,
             Extent::UpToZero { .. } => 0,
+            Extent::Given(_) => 0,
         },
-        Element::Number(_) => 0,
+        Element::Number(_) => match extent {
+            Extent::Given(source) => source_number(source, env, places, cells, value),
+            Extent::Once => 0,
+            Extent::Filling { .. } => 0,
+            Extent::OnceFilling { .. } => 0,
+            Extent::UpToZero { .. } => 0,
+        },
         Element::Named { .. } => 0,
         Element::Unit => 0,
         Element::Rest => 0,

@@ -3,7 +3,7 @@
 ghost use Rattle.std.specs.Prelude.{◌≡◌, ◌≤◌, length, Err, IfOk, IfErr};
 ghost use Rattle.td_write_values.specs.Writing.{listed_written, in_machine};
 ghost use Rattle.td_write_values.specs.declared.limits.TheConstants.{MOST_WRITTEN};
-ghost use Rattle.td_write.specs.Writes.{below, Wrote, Halts, IsSequence};
+ghost use Rattle.td_write.specs.Writes.{below, Wrote, Halts, IsSequence, claims_of};
 
 use crate::bodies::written_fields;
 use crate::fields::counted;
@@ -27,7 +27,7 @@ pub fn named(
     requires { length draft.old.out.items ≤ MOST_WRITTEN }
     ensures ok { IfOk result (λ _. Wrote
         (below walk.now.m.now walk.now.bound place args.now walk.now.places.now cells.old draft.old.path.items (length draft.old.out.items) value.now)
-        draft.old.out.items draft.new.out.items draft.old.path.items draft.new.path.items cells.new) }
+        draft.old.out.items draft.new.out.items draft.old.path.items draft.new.path.items cells.new (claims_of draft.old.claims.items) (claims_of draft.new.claims.items)) }
     ensures err { IfErr result (λ h. Halts h draft.new.path.items
         (below walk.now.m.now walk.now.bound place args.now walk.now.places.now cells.old draft.old.path.items (length draft.old.out.items) value.now)) }
 {
@@ -61,7 +61,7 @@ fn defined(
     requires { length draft.old.out.items ≤ MOST_WRITTEN }
     ensures ok { IfOk result (λ _. Wrote
         (listed_written in_machine walk.now.m.now.listed (below walk.now.m.now walk.now.bound) definition.now args.now walk.now.places.now cells.old draft.old.path.items (length draft.old.out.items) value.now)
-        draft.old.out.items draft.new.out.items draft.old.path.items draft.new.path.items cells.new) }
+        draft.old.out.items draft.new.out.items draft.old.path.items draft.new.path.items cells.new (claims_of draft.old.claims.items) (claims_of draft.new.claims.items)) }
     ensures err { IfErr result (λ h. Halts h draft.new.path.items
         (listed_written in_machine walk.now.m.now.listed (below walk.now.m.now walk.now.bound) definition.now args.now walk.now.places.now cells.old draft.old.path.items (length draft.old.out.items) value.now)) }
     ensures memory { result ≡ Err Halt.NoMemory → IsSequence value.now }

@@ -5,7 +5,7 @@ ghost use Rattle.td_write.specs.Imports.{Part};
 ghost use Rattle.td_write_values.specs.Datum.{Datum};
 ghost use Rattle.td_write_values.specs.Writing.{Written, Later, parts_written, unit_then, in_machine};
 ghost use Rattle.td_write_values.specs.declared.limits.TheConstants.{MOST_WRITTEN};
-ghost use Rattle.td_write.specs.Writes.{GoesOn, Halts};
+ghost use Rattle.td_write.specs.Writes.{GoesOn, Halts, claims_of};
 
 use crate::bytes::{has_room, push_number};
 use crate::halt::Halt;
@@ -86,7 +86,7 @@ pub(crate) fn one_unit(
     requires { length draft.old.out.items ≤ MOST_WRITTEN }
     ensures ok { IfOk result (λ next. (later : Later)
         → GoesOn (parts_written in_machine number_type field.now.parts env.old.items places.now draft.old.path.items left.now.index (length draft.old.out.items) cells.old (drop left.now.index left.now.values.now) (unit_then number_type field.now.parts draft.old.path.items (length draft.old.out.items) later))
-        (later env.new.items next (length draft.new.out.items) cells.new (drop next left.now.values.now)) draft.old.out.items draft.new.out.items) }
+        (later env.new.items next (length draft.new.out.items) cells.new (drop next left.now.values.now)) draft.old.out.items draft.new.out.items (claims_of draft.old.claims.items) (claims_of draft.new.claims.items)) }
     ensures room { IfOk result (λ next. (length draft.new.out.items ≤ MOST_WRITTEN) × (draft.new.path.items ≡ draft.old.path.items)) }
     ensures err { IfErr result (λ h. (later : Later) → Halts h draft.new.path.items
         (parts_written in_machine number_type field.now.parts env.old.items places.now draft.old.path.items left.now.index (length draft.old.out.items) cells.old (drop left.now.index left.now.values.now) (unit_then number_type field.now.parts draft.old.path.items (length draft.old.out.items) later))) }

@@ -21,6 +21,14 @@ pub struct Left<'v> {
     pub index: usize,
 }
 
+/// What a value says of the end of the bytes that enclose it: from a place on so many are left. With its path.
+#[derive(Drop)]
+pub struct Claim {
+    pub place: usize,
+    pub left: u64,
+    pub path: Vec<usize>,
+}
+
 /// What is written of a value.
 #[derive(Drop)]
 pub struct Draft {
@@ -29,4 +37,6 @@ pub struct Draft {
     pub path: Vec<usize>,
     /// The bytes so far.
     pub out: Vec<u8>,
+    /// What was said of ends that aren't known yet, in order.
+    pub claims: Vec<Claim>,
 }

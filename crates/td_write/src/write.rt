@@ -7,6 +7,7 @@ ghost use Rattle.td_write_values.specs.Writing.{Written, Refused};
 ghost use Rattle.td_write.specs.Writes.{Halts};
 ghost use Rattle.td_write.specs.Answers.{IsWritable, IsAppended, IsRefusal, IsCause, IsNowhere, Unless};
 
+use crate::claims::settle;
 use crate::copies::accepted_with;
 use crate::halt::Halt;
 use crate::types::named;
@@ -74,7 +75,12 @@ pub fn write_value(
     let mut left = opened(alloc, m, entry, cells)?;
     let path = Vec::new(alloc);
     let written = Vec::new(alloc);
-    let mut draft = Draft { path, out: written };
+    let claims = Vec::new(alloc);
+    let mut draft = Draft {
+        path,
+        out: written,
+        claims,
+    };
     let places = places_below(alloc, left.len())?;
     let Some(place) = m.entries.as_slice().get(entry.number as usize) else {
         return Err(broken(WriteRule::Broken(Reason::Impossible), draft.path));
@@ -86,6 +92,10 @@ pub fn write_value(
         places: places.as_slice(),
     };
     match named(&walk, *place, value, args, left.as_mut_slice(), &mut draft) {
+        Ok(()) => {}
+        Err(halt) => return Err(stopped(halt, draft.path)),
+    }
+    match settle(alloc, 0, &mut draft) {
         Ok(()) => {
             let answer = accepted_with(alloc, draft.out.as_slice(), left, cells.len())?;
             out.extend_from_slice(draft.out.as_slice())?;

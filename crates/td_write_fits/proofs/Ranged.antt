@@ -1,11 +1,11 @@
 -- Writing in 64 bits is writing in whole numbers, definition by definition.
-use Rattle.std.proofs.Common.{◌≡◌, ℕ, zero, suc, ◌+◌, ◌-◌, ◌^◌, ◌<◌, ◌≤◌, Bool, true, false, List, [], ◌∷◌, ◌++◌, length, map, refl, sym, ap, ◌∙◌, subst, arith, Option, Some, None, slice_get}
-use Rattle.std.specs.Prelude.{nat_eq, slice_index, slice_set}
+use Rattle.std.proofs.Common.{◌≡◌, ℕ, zero, suc, ◌+◌, ◌-◌, ◌^◌, ◌<◌, ◌≤◌, Bool, true, false, List, [], ◌∷◌, ◌++◌, length, map, refl, sym, ap, ◌∙◌, subst, arith, Option, Some, None, slice_get, slice_index, length-append}
+use Rattle.std.specs.Prelude.{nat_eq, slice_set}
 use Rattle.std.proofs.lemmas.Bool.{leb-true, eqb-true, eqb-false}
+use Rattle.std.proofs.lemmas.List.{length-map}
 use Rattle.std.proofs.lemmas.Option.{none-some, same_Some, slice_get_within}
 use Rattle.td_num.specs.Numbers.{bytes_in, places_from}
 use Rattle.td_num.specs.declared.number.NumberType.{NumberType}
-use Rattle.td_num.specs.Lists.{is_among}
 use Rattle.td_num.proofs.Lists.{each_at}
 use Rattle.td_core.specs.declared.expressions.Scalar.TheVariants.{ThirtyTwo}
 use Rattle.td_core.specs.declared.module.CopyOut.{CopyOut}
@@ -13,7 +13,7 @@ use Rattle.td_core.specs.declared.module.NameId.{NameId}
 use Rattle.td_core.specs.declared.module.Element.{Element}
 use Rattle.td_core.specs.declared.module.Element.TheVariants as element
 use Rattle.td_core.specs.declared.module.Extent.{Extent}
-use Rattle.td_core.specs.declared.module.Extent.TheVariants.{Once, Filling, OnceFilling, UpToZero}
+use Rattle.td_core.specs.declared.module.Extent.TheVariants.{Once, Filling, OnceFilling, UpToZero, Given}
 use Rattle.td_core.specs.declared.module.Bits.{Bits}
 use Rattle.td_core.specs.declared.module.Part.{Part}
 use Rattle.td_core.specs.declared.module.Field.{Field}
@@ -24,7 +24,7 @@ use Rattle.td_core.specs.Outcome.{Behavior}
 use Rattle.td_core.specs.Types.{limit}
 use Rattle.td_core.specs.WellFormed.{OfSome}
 use Rattle.td_core.specs.Copies.{IsDefinitionCopying}
-use Rattle.td_core.specs.Formed.{Bound, whole as word, AllFit, IsOptionScoped, IsElementFormed, IsExtentFormed, ArePartsFormed, AreFieldsFormed, IsBodyFormed, IsDefinitionFormed, bits_bound, part_bound, parts_scope, param_bounds, own_bounds, params_at, own_at}
+use Rattle.td_core.specs.Formed.{Bound, scalar_of, whole as word, AllFit, IsOptionScoped, IsElementFormed, IsExtentFormed, ArePartsFormed, AreFieldsFormed, IsBodyFormed, IsDefinitionFormed, bits_bound, part_bound, parts_scope, param_bounds, own_bounds, params_at, own_at}
 use Rattle.td_expr.specs.Facts.{Fact}
 use Rattle.td_expr.specs.Sound.{Sound}
 use Rattle.td_expr.specs.Safe.{first_unsafe, first}
@@ -32,16 +32,16 @@ use Rattle.td_expr.proofs.Admitting.{neither}
 use Rattle.td_meaning.specs.Copies.{opened}
 use Rattle.td_meaning.specs.Doing.{natural_of}
 use Rattle.td_meaning.specs.Words64 as words64
-use Rattle.td_meaning.specs.Meaning.{values, values_of, refined, checked, acted, parts_meaning, bits_of, extended, case_for, pick, entry_place}
+use Rattle.td_meaning.specs.Meaning.{values, refined, checked, acted, parts_meaning, extended, case_for, pick, entry_place}
 use Rattle.td_meaning.specs.Throughout.{OnEnding, OnAction}
 use Rattle.td_meaning.proofs.Ending.{on_then, on_map}
 use Rattle.td_meaning.proofs.Values64.{natural_is}
 use Rattle.td_meaning.proofs.Meaning64.{values_is, refined_is, checked_is, parts_is}
-use Rattle.td_arith.specs.SafeModule.{option_unsafe, known_after, action_unsafe, part_unsafe, parts_unsafe, known_after_parts, element_unsafe, extent_unsafe, copy_unsafe, field_unsafe, fields_unsafe, cases_unsafe, default_unsafe, body_unsafe, definition_unsafe}
+use Rattle.td_arith.specs.declared.values.ValueRange.{ValueRange}
+use Rattle.td_arith.specs.SafeModule.{option_unsafe, known_after, action_unsafe, part_facts, part_unsafe, known_after_part, parts_unsafe, known_after_parts, known_after_field, element_unsafe, extent_unsafe, given_range, copy_unsafe, field_unsafe, fields_unsafe, cases_unsafe, default_unsafe, body_unsafe, definition_unsafe}
 use Rattle.td_arith.proofs.Fitting.{Stand, fit_length, stand_at, fit_set}
-use Rattle.td_arith.proofs.States.{State, pushed, sound}
-use Rattle.td_arith.proofs.Numbers.{bits_small, no_bits}
-use Rattle.td_arith.proofs.Parts.{parts_sound, option_sound, refined_stays, action_sound}
+use Rattle.td_arith.proofs.States.{State, pushed, sound, known_too}
+use Rattle.td_arith.proofs.Parts.{parts_sound, extended_length, option_sound, refined_stays, action_sound}
 use Rattle.td_arith.proofs.Shapes.{args_fit, cells_stand}
 use Rattle.td_arith.proofs.Copies.{CopyStands, CopiesStand, BodyStands, definition_stands}
 use Rattle.td_arith.proofs.Evaluated.{each_safe, stand_after, opened_fits}
@@ -50,11 +50,12 @@ use Rattle.td_write_values.specs.declared.error.WriteRule.TheVariants.{Shape, Ra
 use Rattle.td_write_values.specs.declared.limits.TheConstants.{MOST_WRITTEN}
 use Rattle.td_write_values.specs.Datum.{Datum, Number, Sequence, Bytes, Empty, list_of}
 use Rattle.td_write_values.specs.Bytes.{number_bytes, fits, is_byte, unit_type, unit_number, makes_unit}
-use Rattle.td_write_values.specs.Spelling.{fills, fills_once, number_in}
-use Rattle.td_write_values.specs.Writing.{Written, Done, Refused, Writer, after_writing, wanted, of_size, has_room, bytes_written, list_written, zero_ended_written, of_enum, is_listed, element_bytes, element_written, contents_written, shape_written, noted, copied, parts_written, field_written, fields_written, is_count, chosen_written, body_written, definition_written, writers_below, in_machine, whole}
+use Rattle.td_write_values.specs.Spelling.{fills, fills_once, noted, number_in}
+use Rattle.td_write_values.specs.Writing.{Claim, Written, Done, Refused, Writer, after_writing, followed, tested, of_size, settled, has_room, bytes_written, list_written, zero_ended_written, of_enum, is_listed, element_bytes, element_written, contents_written, shape_written, copied, parts_written, field_written, fields_written, is_count, chosen_written, body_written, definition_written, writers_below, in_machine, whole}
 use Rattle.td_write_values.proofs.Lengths.{number_length}
 use Rattle.td_write_fits.specs.Laws.{WritingIsInRange}
-use Rattle.td_write_fits.proofs.Same.{OnDone, Kept, Same, after_kept, followed_same, wanted_same, tested_same, size_same, enum_same, copied_same, number_same, bytes_same, zeros_same, unit_same, list_same, zero_ended_same}
+use Rattle.td_write_fits.proofs.Same.{OnDone, Kept, Same, after_kept, followed_same, wanted_same, tested_same, size_same, settled_same, enum_same, copied_same, number_same, bytes_same, zeros_same, unit_same, list_same, zero_ended_same, given_same}
+use Rattle.td_write_fits.proofs.Numbers.{number_fits, number_is, unit_range}
 
 -- what is known of a definition
 abbrev pub IsSame : List Bound → List Bound → Writer → Writer → Type 0
@@ -73,34 +74,12 @@ noted_small all bounds places (Some c) p n cells st h low few f =
     (fit_set all cells (slice_index places c.cell) (word ThirtyTwo) p (stand_at all bounds places c.cell (word ThirtyTwo) h.place st) f place) count
 
 -- the bytes that are noted were written
-copied_done : (copy : Option CopyOut) (places : List ℕ) (p : ℕ) (w : Written) (s more : List ℕ) → copied copy places p w ≡ Done s more → (cells : List ℕ) × (w ≡ Done s cells)
-copied_done copy places p (Done t cells) s more e = let same : t ≡ s = cc in (cells, ap (λ x. Done x cells) same)
-copied_done copy places p (Refused rule path) s more e = absurd (cc)
-
--- the number that a field's parts see is in their range, where its value was written
-number_small : (sets : List (List ℕ)) (writers : ℕ → Writer) (e : Element) (x : Extent) (env places path : List ℕ) (p : ℕ) (cells : List ℕ) (v : Datum) (s more : List ℕ) → unit_type e x ≡ None
-    → shape_written whole sets writers e x env places path p cells v ≡ Done s more → (bits : Option Bits) → bits_of bits (number_in e x v) ≤ (part_bound e x bits).most
-number_small sets writers (element.Number t) Once env places path p cells v s more u d bits = absurd (cc)
-number_small sets writers (element.Number t) (Filling size step) env places path p cells v s more u d bits = no_bits bits
-number_small sets writers (element.Number t) (OnceFilling size step) env places path p cells v s more u d bits = no_bits bits
-number_small sets writers (element.Number t) (UpToZero size) env places path p cells v s more u d bits = no_bits bits
-number_small sets writers (element.Listed base k) Once env places path p cells (Number n) s more u d bits = by (is_among (values_of sets k) n) (fits base None n) refl d
-  where
-    by : (l f : Bool) → fits base None n ≡ f → of_enum l path (wanted f Range path (wanted (has_room p (bytes_in base.width)) Long path (Done (number_bytes base n) cells))) ≡ Done s more
-        → bits_of bits n ≤ (bits_bound base.width bits).most
-    by true false e d = absurd (cc)
-    by false false e d = absurd (cc)
-    by l true e d = bits_small base.width bits n (leb-true n (bits_bound base.width None).most e)
-number_small sets writers (element.Listed base k) Once env places path p cells (Sequence vs) s more u d bits = absurd (cc)
-number_small sets writers (element.Listed base k) Once env places path p cells (Bytes bytes) s more u d bits = absurd (cc)
-number_small sets writers (element.Listed base k) Once env places path p cells Empty s more u d bits = absurd (cc)
-number_small sets writers (element.Listed base k) (Filling size step) env places path p cells v s more u d bits = no_bits bits
-number_small sets writers (element.Listed base k) (OnceFilling size step) env places path p cells v s more u d bits = no_bits bits
-number_small sets writers (element.Listed base k) (UpToZero size) env places path p cells v s more u d bits = no_bits bits
-number_small sets writers (element.Named j args own) x env places path p cells v s more u d bits = no_bits bits
-number_small sets writers element.Unit x env places path p cells v s more u d bits = no_bits bits
-number_small sets writers element.Rest x env places path p cells v s more u d bits = no_bits bits
-number_small sets writers element.Zeros x env places path p cells v s more u d bits = no_bits bits
+copied_done : (copy : Option CopyOut) (places : List ℕ) (p : ℕ) (w : Written) (s more : List ℕ) (claims : List Claim) → copied copy places p w ≡ Done s more claims → (cells : List ℕ) × (w ≡ Done s cells claims)
+copied_done copy places p (Done t cells others) s more claims e =
+    let same : t ≡ s = cc in
+    let rest : others ≡ claims = cc in
+    (cells, λ i. Done (same i) cells (rest i))
+copied_done copy places p (Refused rule path) s more claims e = absurd (cc)
 
 module _ (sets : List (List ℕ)) (ours means : ℕ → Writer) (ds : List TypeDef) (n : ℕ)
     (good : (j : ℕ) → j < n → IsSame (params_at (slice_get ds j)) (own_at (slice_get ds j)) (ours j) (means j))
@@ -130,105 +109,117 @@ module _ (sets : List (List ℕ)) (ours means : ℕ → Writer) (ds : List TypeD
       by true = bytes_same all path p cells v f
       by false = list_same all (element_written in_machine sets ours e env places) (element_written whole sets means e env places) (λ path p cells v le f. element_same scope facts env s e path p cells v form u le f) path p cells v le f
 
-  shape_same : (scope : List Bound) (facts : List Fact) (env : List ℕ) → State scope facts env → (e : Element) (x : Extent) (path : List ℕ) (p : ℕ) (cells : List ℕ) (v : Datum) → IsElementFormed ds n bounds scope e → IsExtentFormed scope x → element_unsafe facts e ≡ None → extent_unsafe facts x ≡ None → p ≤ MOST_WRITTEN → AllFit all cells
+  shape_same : (scope : List Bound) (facts : List Fact) (env : List ℕ) → State scope facts env → (e : Element) (x : Extent) (path : List ℕ) (p : ℕ) (cells : List ℕ) (v : Datum) → IsElementFormed ds n bounds scope e → IsExtentFormed bounds scope e x → element_unsafe facts e ≡ None → extent_unsafe facts e x ≡ None → p ≤ MOST_WRITTEN → AllFit all cells
       → Same all p (shape_written in_machine sets ours e x env places path p cells v) (shape_written whole sets means e x env places path p cells v)
   shape_same scope facts env s e Once path p cells v form sized u w le f = element_same scope facts env s e path p cells v form u le f
   shape_same scope facts env s e (Filling size step) path p cells v form sized u w le f =
       let is = natural_is size env (sound scope facts env size s sized w) in
-      let h = size_same all p (fills step (natural_of size env)) path (contents_written in_machine sets ours e env places path p cells v) (contents_written whole sets means e env places path p cells v) (contents_same scope facts env s e path p cells v form u le f) in
-      (ap (λ k. of_size (fills step k) path (contents_written in_machine sets ours e env places path p cells v)) is ∙ h.0, h.1)
+      let ours_bytes = contents_written in_machine sets ours e env places path p cells v in
+      let means_bytes = contents_written whole sets means e env places path p cells v in
+      let test = fills step (natural_of size env) in
+      let h = settled_same all p (of_size test path ours_bytes) (of_size test path means_bytes)
+      (size_same all p test path ours_bytes means_bytes (contents_same scope facts env s e path p cells v form u le f)) in
+      (ap (λ k. settled p (of_size (fills step k) path ours_bytes)) is ∙ h.0, h.1)
   shape_same scope facts env s e (OnceFilling size step) path p cells v form sized u w le f =
       let is = natural_is size env (sound scope facts env size s sized w) in
       let ours_bytes = element_bytes in_machine ours e env places path p cells v in
       let means_bytes = element_bytes whole means e env places path p cells v in
-      let h = enum_same all p (is_listed sets e v) path (of_size (fills_once step (natural_of size env)) path ours_bytes) (of_size (fills_once step (natural_of size env)) path means_bytes)
-      (size_same all p (fills_once step (natural_of size env)) path ours_bytes means_bytes (bytes_alike scope facts env s e path p cells v form u le f)) in
-      (ap (λ k. of_enum (is_listed sets e v) path (of_size (fills_once step k) path ours_bytes)) is ∙ h.0, h.1)
+      let test = fills_once step (natural_of size env) in
+      let h = enum_same all p (is_listed sets e v) path (settled p (of_size test path ours_bytes)) (settled p (of_size test path means_bytes))
+      (settled_same all p (of_size test path ours_bytes) (of_size test path means_bytes)
+      (size_same all p test path ours_bytes means_bytes (bytes_alike scope facts env s e path p cells v form u le f))) in
+      (ap (λ k. of_enum (is_listed sets e v) path (settled p (of_size (fills_once step k) path ours_bytes))) is ∙ h.0, h.1)
   shape_same scope facts env s e (UpToZero size) path p cells v form sized u w le f =
       let is = natural_is size env (sound scope facts env size s sized w) in
       let h = zero_ended_same all e (natural_of size env) path p cells v le f in
       (ap (λ k. zero_ended_written e k path p cells v) is, h.1)
+  shape_same scope facts env s e (Given source) path p cells v form sized u w le f = given_same all e source path p cells v le f
 
   -- Units
 
-  parts_same : (t : NumberType) (e : Element) (x : Extent) → ((bits : Option Bits) → part_bound e x bits ≡ bits_bound t.width bits)
-      → (parts : List Part) (scope : List Bound) (facts : List Fact) (env path : List ℕ) (i start : ℕ) (cells : List ℕ) (vs : List Datum) (go next : List ℕ → List ℕ → ℕ → List ℕ → List Datum → Written)
-      → ArePartsFormed bounds e x scope parts → State scope facts env → parts_unsafe facts parts ≡ None → AllFit all cells → start ≤ MOST_WRITTEN
-      → ((ns env : List ℕ) (i : ℕ) (cells : List ℕ) (vs : List Datum) → State (parts_scope e x scope parts) (known_after_parts facts parts) env → AllFit all cells → Same all start (go ns env i cells vs) (next ns env i cells vs))
+  parts_same : (t : NumberType) (e : Element) (x : Extent) (range : Option ValueRange) → range ≡ None → ((bits : Option Bits) → part_bound e x bits ≡ bits_bound t.width bits)
+      → (parts : List Part) (scope : List Bound) (level : ℕ) (facts : List Fact) (env path : List ℕ) (i start : ℕ) (cells : List ℕ) (vs : List Datum) (go next : List ℕ → List ℕ → ℕ → List ℕ → List Datum → Written)
+      → ArePartsFormed bounds e x scope parts → length env ≡ level → State scope facts env → parts_unsafe level facts range parts ≡ None → AllFit all cells → start ≤ MOST_WRITTEN
+      → ((ns env : List ℕ) (i : ℕ) (cells : List ℕ) (vs : List Datum) → length env ≡ level + length parts → State (parts_scope e x scope parts) (known_after_parts level facts range parts) env → AllFit all cells → Same all start (go ns env i cells vs) (next ns env i cells vs))
       → Same all start (parts_written in_machine t parts env places path i start cells vs go) (parts_written whole t parts env places path i start cells vs next)
   unfolding parts_written
-  parts_same t e x bound [] scope facts env path i start cells vs go next form s u f le k = k [] env i cells vs s f
-  parts_same t e x bound (part ∷ parts) scope facts env path i start cells [] go next form s u f le k = (refl, tt)
-  parts_same t e x bound (part ∷ parts) scope facts env path i start cells (Sequence ws ∷ vs) go next form s u f le k = (refl, tt)
-  parts_same t e x bound (part ∷ parts) scope facts env path i start cells (Bytes bytes ∷ vs) go next form s u f le k = (refl, tt)
-  parts_same t e x bound (part ∷ parts) scope facts env path i start cells (Empty ∷ vs) go next form s u f le k = (refl, tt)
-  parts_same t e x bound (part ∷ parts) scope facts env path i start cells (Number v ∷ vs) go next form s u f le k =
+  parts_same t e x range none bound [] scope level facts env path i start cells vs go next form long s u f le k = k [] env i cells vs (omega (arith, long)) s f
+  parts_same t e x range none bound (part ∷ parts) scope level facts env path i start cells [] go next form long s u f le k = (refl, tt)
+  parts_same t e x range none bound (part ∷ parts) scope level facts env path i start cells (Sequence ws ∷ vs) go next form long s u f le k = (refl, tt)
+  parts_same t e x range none bound (part ∷ parts) scope level facts env path i start cells (Bytes bytes ∷ vs) go next form long s u f le k = (refl, tt)
+  parts_same t e x range none bound (part ∷ parts) scope level facts env path i start cells (Empty ∷ vs) go next form long s u f le k = (refl, tt)
+  parts_same t e x range none bound (part ∷ parts) scope level facts env path i start cells (Number v ∷ vs) go next form long s u f le k =
       let at = path ++ i ∷ [] in
       let q = start + bytes_in t.width in
       let values = env ++ v ∷ [] in
       let b = part_bound e x part.bits in
       let wider = scope ++ b ∷ [] in
-      let then = known_after facts part.refinement in
+      let given = facts ++ part_facts level range part.bits in
+      let then = known_after_part level facts range part in
       let low : start < 2 ^ 32 = omega (arith, le) in
+      let longer : length values ≡ level + 1 = length-append env (v ∷ []) ∙ ap (λ k. k + 1) long in
       wanted_same all start (fits t part.bits v) Range at _ _
       (λ fit. wanted_same all start (has_room start (bytes_in t.width)) Long at _ _
       (λ r.
       let small : v ≤ b.most = subst (λ y. v ≤ y.most) (sym (bound part.bits)) (leb-true v (bits_bound t.width part.bits).most fit) in
-      let here : State wider facts values = pushed scope facts env b v s small in
-      let both = neither (part_unsafe facts part) (parts_unsafe then parts) u in
-      let own = neither (option_unsafe facts part.refinement) (action_unsafe then part.action) both.0 in
+      let here : State wider given values = subst (λ o. State wider (facts ++ part_facts level o part.bits) values) (sym none) (known_too wider facts [] values (pushed scope facts env b v s small) tt tt) in
+      let both = neither (part_unsafe given part) (parts_unsafe (level + 1) then range parts) u in
+      let own = neither (option_unsafe given part.refinement) (action_unsafe then part.action) both.0 in
       let After : ℕ → List ℕ → Type 0 = λ r more. (r ≡ q) × (AllFit all more × State wider then values) in
-      let met : OnEnding (refined part.refinement values start q cells).ending After = refined_stays all wider facts values part.refinement start q cells form.0 here own.0 f in
+      let met : OnEnding (refined part.refinement values start q cells).ending After = refined_stays all wider given values part.refinement start q cells form.0 here own.0 f in
       let acting : (r : ℕ) (more : List ℕ) → After r more → OnAction Sound part.action values places start more × OnEnding (acted part.action values places start r more).ending After =
       λ r more h.
       let a = action_sound all bounds places wider then values part.action start r more st form.1.0 h.1.1 own.1 low h.1.0 in
       (a.0, on_map (acted part.action values places start r more).ending (λ t rest. (t ≡ r) × AllFit all rest) After a.1 (λ t rest e. (e.0 ∙ h.0, (e.1, h.1.1)))) in
       let done : OnEnding (checked part values places start q cells).ending After =
       on_then (refined part.refinement values start q cells).ending (refined part.refinement values start q cells).reads (acted part.action values places start) After After met (λ r more h. (acting r more h).1) in
-      let is = checked_is part values places start q cells (option_sound wider facts values part.refinement form.0 here own.0)
+      let is = checked_is part values places start q cells (option_sound wider given values part.refinement form.0 here own.0)
       (on_map (refined part.refinement values start q cells).ending After (λ r more. OnAction Sound part.action values places start more) met (λ r more h. (acting r more h).0)) in
       tested_same all start (words64.checked part values places start q cells).ending (checked part values places start q cells).ending at _ _ After (ap (λ (y : Behavior). y.ending) is) done
-      (λ r more h. parts_same t e x bound parts wider then values path (suc i) start more vs (λ ns. go (v ∷ ns)) (λ ns. next (v ∷ ns)) form.1.1 h.1.1 both.1 h.1.0 le (λ ns env i cells vs s f. k (v ∷ ns) env i cells vs s f))))
+      (λ r more h. parts_same t e x range none bound parts wider (level + 1) then values path (suc i) start more vs (λ ns. go (v ∷ ns)) (λ ns. next (v ∷ ns)) form.1.1 longer h.1.1 both.1 h.1.0 le
+      (λ ns env i cells vs long s f. k (v ∷ ns) env i cells vs (omega (arith, long)) s f))))
 
   -- Fields
 
   module _ (ty : NameId) where
-    fields_same : (fs : List Field) (scope : List Bound) (facts : List Fact) (env path : List ℕ) (i p : ℕ) (cells : List ℕ) (vs : List Datum)
-        → AreFieldsFormed ds n bounds scope fs → CopiesStand bounds fs → State scope facts env → fields_unsafe facts fs ≡ None → p ≤ MOST_WRITTEN → AllFit all cells
+    fields_same : (fs : List Field) (scope : List Bound) (level : ℕ) (facts : List Fact) (env path : List ℕ) (i p : ℕ) (cells : List ℕ) (vs : List Datum)
+        → AreFieldsFormed ds n bounds scope fs → CopiesStand bounds fs → length env ≡ level → State scope facts env → fields_unsafe level facts fs ≡ None → p ≤ MOST_WRITTEN → AllFit all cells
         → Same all p (fields_written in_machine sets ours ty fs env places path i p cells vs) (fields_written whole sets means ty fs env places path i p cells vs)
     unfolding fields_written
-    fields_same [] scope facts env path i p cells [] form stand s u le f = (refl, (omega (arith, le), f))
-    fields_same [] scope facts env path i p cells (v ∷ vs) form stand s u le f = (refl, tt)
-    fields_same (x ∷ later) scope facts env path i p cells vs form stand s u le f =
-        let one = neither (field_unsafe facts x) (fields_unsafe (known_after_parts facts x.parts) later) u in
-        let two = neither (element_unsafe facts x.element) (first (extent_unsafe facts x.extent) (first (copy_unsafe facts x.copy x.extent) (parts_unsafe facts x.parts))) one.0 in
-        let three = neither (extent_unsafe facts x.extent) (first (copy_unsafe facts x.copy x.extent) (parts_unsafe facts x.parts)) two.1 in
-        let four = neither (copy_unsafe facts x.copy x.extent) (parts_unsafe facts x.parts) three.1 in
+    fields_same [] scope level facts env path i p cells [] form stand long s u le f = (refl, (omega (arith, le), f))
+    fields_same [] scope level facts env path i p cells (v ∷ vs) form stand long s u le f = (refl, tt)
+    fields_same (x ∷ later) scope level facts env path i p cells vs form stand long s u le f =
+        let one = neither (field_unsafe level facts x) (fields_unsafe (level + length x.parts) (known_after_field level facts x) later) u in
+        let range = given_range facts x.element x.extent in
+        let two = neither (element_unsafe facts x.element) (first (extent_unsafe facts x.element x.extent) (first (copy_unsafe facts x.copy x.extent) (parts_unsafe level facts range x.parts))) one.0 in
+        let three = neither (extent_unsafe facts x.element x.extent) (first (copy_unsafe facts x.copy x.extent) (parts_unsafe level facts range x.parts)) two.1 in
+        let four = neither (copy_unsafe facts x.copy x.extent) (parts_unsafe level facts range x.parts) three.1 in
         by two.0 three.0 four.1 (unit_type x.element x.extent) refl vs
-        (λ env i p cells vs s le f. fields_same later (parts_scope x.element x.extent scope x.parts) (known_after_parts facts x.parts) env path i p cells vs form.1.1.1 stand.1 s one.1 le f)
+        (λ env i p cells vs long s le f. fields_same later (parts_scope x.element x.extent scope x.parts) (level + length x.parts) (known_after_field level facts x) env path i p cells vs form.1.1.1 stand.1 long s one.1 le f)
       where
-        by : element_unsafe facts x.element ≡ None → extent_unsafe facts x.extent ≡ None → parts_unsafe facts x.parts ≡ None → (o : Option NumberType) → unit_type x.element x.extent ≡ o → (vs : List Datum)
-            → ((env : List ℕ) (i p : ℕ) (cells : List ℕ) (vs : List Datum) → State (parts_scope x.element x.extent scope x.parts) (known_after_parts facts x.parts) env → p ≤ MOST_WRITTEN → AllFit all cells
+        by : element_unsafe facts x.element ≡ None → extent_unsafe facts x.element x.extent ≡ None → parts_unsafe level facts (given_range facts x.element x.extent) x.parts ≡ None → (o : Option NumberType) → unit_type x.element x.extent ≡ o → (vs : List Datum)
+            → ((env : List ℕ) (i p : ℕ) (cells : List ℕ) (vs : List Datum) → length env ≡ level + length x.parts → State (parts_scope x.element x.extent scope x.parts) (known_after_field level facts x) env → p ≤ MOST_WRITTEN → AllFit all cells
             → Same all p (fields_written in_machine sets ours ty later env places path i p cells vs) (fields_written whole sets means ty later env places path i p cells vs))
             → Same all p (field_written in_machine sets ours ty o x env places path i p cells vs (λ env i p cells vs. fields_written in_machine sets ours ty later env places path i p cells vs))
             (field_written whole sets means ty o x env places path i p cells vs (λ env i p cells vs. fields_written whole sets means ty later env places path i p cells vs))
         by a b c (Some t) e vs next =
-            parts_same t x.element x.extent (bound_is x.element x.extent t e) x.parts scope facts env path i p cells vs _ _ form.1.1.0 s c f le
-            (λ ns env i cells vs s f.
+            parts_same t x.element x.extent (given_range facts x.element x.extent) (unit_range facts x.element x.extent t e) (bound_is x.element x.extent t e) x.parts scope level facts env path i p cells vs _ _ form.1.1.0 long s c f le
+            (λ ns env i cells vs long s f.
             let bytes : List ℕ = number_bytes t (unit_number x.parts ns) in
             let at : p + bytes_in t.width ≡ p + length bytes = ap (λ k. p + k) (sym (number_length t (unit_number x.parts ns))) in
             wanted_same all p (makes_unit t x.parts ns) Range path _ _
             (λ m. wanted_same all p (has_room p (bytes_in t.width)) Long path _ _
             (λ r.
-            let h = next env i (p + bytes_in t.width) cells vs s (leb-true (p + bytes_in t.width) MOST_WRITTEN r) f in
+            let h = next env i (p + bytes_in t.width) cells vs long s (leb-true (p + bytes_in t.width) MOST_WRITTEN r) f in
             let means_here = fields_written whole sets means ty later env places path i (p + bytes_in t.width) cells vs in
-            (ap (after_writing bytes) h.0, after_kept all p bytes means_here (subst (λ q. OnDone means_here (Kept all q)) at h.1)))))
+            (ap (after_writing bytes []) h.0, after_kept all p bytes [] means_here (subst (λ q. OnDone means_here (Kept all q)) at h.1)))))
           where
             bound_is : (el : Element) (ex : Extent) (t : NumberType) → unit_type el ex ≡ Some t → (bits : Option Bits) → part_bound el ex bits ≡ bits_bound t.width bits
             bound_is (element.Number y) Once t e bits = ap (λ (z : NumberType). bits_bound z.width bits) (same_Some y t e)
             bound_is (element.Number y) (Filling size step) t e bits = absurd (none-some t e)
             bound_is (element.Number y) (OnceFilling size step) t e bits = absurd (none-some t e)
             bound_is (element.Number y) (UpToZero size) t e bits = absurd (none-some t e)
+            bound_is (element.Number y) (Given source) t e bits = absurd (none-some t e)
             bound_is (element.Listed base k) ex t e bits = absurd (none-some t e)
             bound_is (element.Named j args own) ex t e bits = absurd (none-some t e)
             bound_is element.Unit ex t e bits = absurd (none-some t e)
@@ -236,57 +227,65 @@ module _ (sets : List (List ℕ)) (ours means : ℕ → Writer) (ds : List TypeD
             bound_is element.Zeros ex t e bits = absurd (none-some t e)
         by a b c None e [] next = (refl, tt)
         by a b c None e (v ∷ vs) next =
-            let m = number_in x.element x.extent v in
+            let m = number_in natural_of x.element x.extent env places cells v in
             let at = path ++ i ∷ [] in
             let low : p < 2 ^ 32 = omega (arith, le) in
             let ours_here = shape_written in_machine sets ours x.element x.extent env places at p cells v in
             let means_here = shape_written whole sets means x.element x.extent env places at p cells v in
-            followed_same all p (copied x.copy places p ours_here) (copied x.copy places p means_here) _ _
+            let range = given_range facts x.element x.extent in
+            let ours_then = λ (k q : ℕ) (more : List ℕ). tested (words64.parts_meaning ty p k x.parts env places q more).ending at (λ last. fields_written in_machine sets ours ty later (extended env k x.parts) places path (suc i) q last vs) in
+            let told = followed_same all p (copied x.copy places p ours_here) (copied x.copy places p means_here) (ours_then m) _
             (copied_same all x.copy places p ours_here means_here
             (λ count last few fits. noted_small all bounds places x.copy p count last st stand.0 le few fits)
             (shape_same scope facts env s x.element x.extent at p cells v form.0 form.1.0 a b le f))
-            (λ bytes more d k.
-            let shaped = copied_done x.copy places p means_here bytes more d in
+            (λ bytes more claims d k.
+            let shaped = copied_done x.copy places p means_here bytes more claims d in
             let q = p + length bytes in
-            let parts = parts_sound all bounds places x.element x.extent ty p m (number_small sets means x.element x.extent env places at p cells v bytes shaped.0 e shaped.1) low st x.parts scope facts env q more form.1.1.0 s c k.1 in
+            let number = number_fits all bounds scope facts env places st s sets means x.element x.extent at p cells v bytes shaped.0 claims f form.1.0 b e shaped.1 in
+            let parts = parts_sound all bounds places x.element x.extent ty p m number.small low st range number.told x.parts scope level facts env q more form.1.1.0 long s c k.1 in
+            let longer : length (extended env m x.parts) ≡ level + length x.parts = let some = extended_length env m x.parts in omega (arith, some, long) in
             tested_same all q (words64.parts_meaning ty p m x.parts env places q more).ending (parts_meaning ty p m x.parts env places q more).ending at _ _
-            (λ r last. (r ≡ q) × (AllFit all last × State (parts_scope x.element x.extent scope x.parts) (known_after_parts facts x.parts) (extended env m x.parts)))
+            (λ r last. (r ≡ q) × (AllFit all last × State (parts_scope x.element x.extent scope x.parts) (known_after_field level facts x) (extended env m x.parts)))
             (ap (λ (y : Behavior). y.ending) (parts_is ty p m x.parts env places q more parts.sound)) parts.stays
-            (λ r last h. next (extended env m x.parts) (suc i) q last vs h.1.1 k.0 h.1.0))
+            (λ r last h. next (extended env m x.parts) (suc i) q last vs longer h.1.1 k.0 h.1.0)) in
+            (ap (λ k. followed (copied x.copy places p ours_here) p (ours_then k)) (number_is bounds scope facts env places cells x.element x.extent v s form.1.0 b) ∙ told.0, told.1)
 
-    chosen_same : (fs : Option (List Field)) (scope : List Bound) (facts : List Fact) (env path : List ℕ) (p : ℕ) (cells : List ℕ) (vs : List Datum) → Chosen ds n bounds scope facts fs → State scope facts env → p ≤ MOST_WRITTEN → AllFit all cells
+    chosen_same : (fs : Option (List Field)) (scope : List Bound) (level : ℕ) (facts : List Fact) (env path : List ℕ) (p : ℕ) (cells : List ℕ) (vs : List Datum) → Chosen ds n bounds scope level facts fs → length env ≡ level → State scope facts env → p ≤ MOST_WRITTEN → AllFit all cells
         → Same all p (chosen_written in_machine sets ours ty fs env places path p cells vs) (chosen_written whole sets means ty fs env places path p cells vs)
-    chosen_same None scope facts env path p cells vs c s le f = (refl, tt)
-    chosen_same (Some fs) scope facts env path p cells vs c s le f =
-        wanted_same all p (is_count fs vs) Shape path _ _ (λ e. fields_same fs scope facts env path 0 p cells vs c.formed c.stands s c.safe le f)
+    chosen_same None scope level facts env path p cells vs c long s le f = (refl, tt)
+    chosen_same (Some fs) scope level facts env path p cells vs c long s le f =
+        wanted_same all p (is_count fs vs) Shape path _ _ (λ e. fields_same fs scope level facts env path 0 p cells vs c.formed c.stands long s c.safe le f)
 
   body_same : (d : TypeDef) (body : Body) (args path : List ℕ) (p : ℕ) (cells : List ℕ) (vs : List Datum) → IsOptionScoped (param_bounds d.params) d.guard → IsBodyFormed ds n bounds (param_bounds d.params) body → BodyStands bounds body
-      → option_unsafe [] d.guard ≡ None → body_unsafe (known_after [] d.guard) body ≡ None → AllFit (param_bounds d.params) args → p ≤ MOST_WRITTEN → AllFit all cells
+      → option_unsafe [] d.guard ≡ None → body_unsafe (length d.params) (known_after [] d.guard) body ≡ None → AllFit (param_bounds d.params) args → p ≤ MOST_WRITTEN → AllFit all cells
       → Same all p (body_written in_machine sets ours d body args places path p cells vs) (body_written whole sets means d body args places path p cells vs)
   body_same d (Struct fs) args path p cells vs guard form stand a u fits le f =
       let facts = known_after [] d.guard in
       let scope = param_bounds d.params in
+      let long : length args ≡ length d.params = sym (fit_length scope args fits) ∙ length-map d.params (λ p. word (scalar_of p.width)) in
       let K : ℕ → List ℕ → Type 0 = λ q more. (q ≡ p) × (AllFit all more × State scope facts args) in
       let start : State scope [] args = record { fits = fits; placed = tt; holds = tt } in
       let met : OnEnding (refined d.guard args p p cells).ending K = refined_stays all scope [] args d.guard p p cells guard start a f in
       let is = refined_is d.guard args p p cells (option_sound scope [] args d.guard guard start a) in
       wanted_same all p (is_count fs vs) Shape path _ _
       (λ e. tested_same all p (in_machine.guarded d.guard args p p cells).ending (refined d.guard args p p cells).ending path _ _ K (ap (λ (y : Behavior). y.ending) is) met
-      (λ q more h. fields_same d.name fs scope facts args path 0 p more vs form stand h.1.1 u le h.1.0))
+      (λ q more h. fields_same d.name fs scope (length d.params) facts args path 0 p more vs form stand long h.1.1 u le h.1.0))
   body_same d (Casetype switch cases default) args path p cells vs guard form stand a u fits le f =
       let facts = known_after [] d.guard in
       let scope = param_bounds d.params in
+      let level = length d.params in
+      let long : length args ≡ length d.params = sym (fit_length scope args fits) ∙ length-map d.params (λ p. word (scalar_of p.width)) in
       let K : ℕ → List ℕ → Type 0 = λ q more. (q ≡ p) × (AllFit all more × State scope facts args) in
       let start : State scope [] args = record { fits = fits; placed = tt; holds = tt } in
       let met : OnEnding (refined d.guard args p p cells).ending K = refined_stays all scope [] args d.guard p p cells guard start a f in
       let is = refined_is d.guard args p p cells (option_sound scope [] args d.guard guard start a) in
-      let one = neither (first_unsafe facts switch) (first (cases_unsafe facts cases) (default_unsafe facts default)) u in
-      let two = neither (cases_unsafe facts cases) (default_unsafe facts default) one.1 in
+      let one = neither (first_unsafe facts switch) (first (cases_unsafe level facts cases) (default_unsafe level facts default)) u in
+      let two = neither (cases_unsafe level facts cases) (default_unsafe level facts default) one.1 in
       tested_same all p (in_machine.guarded d.guard args p p cells).ending (refined d.guard args p p cells).ending path _ _ K (ap (λ (y : Behavior). y.ending) is) met
       (λ q more h.
       let v = natural_of switch args in
       let same = natural_is switch args (sound scope facts args switch h.1.1 form.0 one.0) in
-      let c = chosen_same d.name (case_for v cases default) scope facts args path p more vs (choose ds n bounds scope facts v cases default form.1.0 form.1.1 stand.0 stand.1 two.0 two.1) h.1.1 le h.1.0 in
+      let c = chosen_same d.name (case_for v cases default) scope level facts args path p more vs (choose ds n bounds scope level facts v cases default form.1.0 form.1.1 stand.0 stand.1 two.0 two.1) long h.1.1 le h.1.0 in
       (ap (λ k. chosen_written in_machine sets ours d.name (case_for k cases default) args places path p more vs) same ∙ c.0, c.1))
 
 definition_same : (sets : List (List ℕ)) (ours means : ℕ → Writer) (ds : List TypeDef) (n : ℕ)
@@ -297,7 +296,7 @@ definition_same sets ours means ds n good None h all args places more path p x f
 definition_same sets ours means ds n good (Some d) h all args places more path p (Number v) fits st f le = (refl, tt)
 definition_same sets ours means ds n good (Some d) h all args places more path p (Sequence vs) fits st f le =
     let form = (h d refl).0 in
-    let u = neither (option_unsafe [] d.guard) (body_unsafe (known_after [] d.guard) d.body) (h d refl).1.1 in
+    let u = neither (option_unsafe [] d.guard) (body_unsafe (length d.params) (known_after [] d.guard) d.body) (h d refl).1.1 in
     body_same sets ours means ds n good all (own_bounds d) places st d d.body args path p more (list_of vs) form.0 form.1 (definition_stands ds d (h d refl).1.0) u.0 u.1 fits le f
 definition_same sets ours means ds n good (Some d) h all args places more path p (Bytes bytes) fits st f le = (refl, tt)
 definition_same sets ours means ds n good (Some d) h all args places more path p Empty fits st f le = (refl, tt)
@@ -333,6 +332,6 @@ writing_is_in_range m entry place d args visible v formed copying safe at is fit
     let told = good bounds args (places_from 0 (length cells)) cells [] 0 v
     (subst (λ o. AllFit (params_at o) args) (sym is) fits)
     (subst (λ o. Stand bounds (own_at o) (places_from 0 (length cells))) (sym is) stands) room (omega arith) in
-    (λ k. writers_below in_machine m.listed m.definitions (length m.definitions) (entry_place (at k) (length m.definitions)) args (places_from 0 (length cells)) cells [] 0 v)
-    ∙ told.0
-    ∙ (λ k. writers_below whole m.listed m.definitions (length m.definitions) (entry_place (sym at k) (length m.definitions)) args (places_from 0 (length cells)) cells [] 0 v)
+    (λ k. settled 0 (writers_below in_machine m.listed m.definitions (length m.definitions) (entry_place (at k) (length m.definitions)) args (places_from 0 (length cells)) cells [] 0 v))
+    ∙ ap (settled 0) told.0
+    ∙ (λ k. settled 0 (writers_below whole m.listed m.definitions (length m.definitions) (entry_place (sym at k) (length m.definitions)) args (places_from 0 (length cells)) cells [] 0 v))

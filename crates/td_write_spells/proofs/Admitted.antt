@@ -2,7 +2,7 @@
 use Rattle.std.proofs.Common.{◌≡◌, ℕ, zero, suc, ◌+◌, ◌-◌, ◌<◌, false, ◌&&◌, ◌||◌, List, [], ◌∷◌, ◌++◌, length, refl, sym, ap, ◌∙◌, arith, Option, Some, None, slice_get}
 use Rattle.std.specs.Prelude.{nat_eq, not}
 use Rattle.std.proofs.lemmas.Option.{none-some}
-use Rattle.td_write_spells.specs.Imports.{Kind, Element, Extent, Once, Filling, OnceFilling, UpToZero, Field, Case, Body, Struct, Casetype, TypeDef, ZeroElement, RestNotLast}
+use Rattle.td_write_spells.specs.Imports.{Kind, Element, Extent, Once, Filling, OnceFilling, UpToZero, Given, Field, Case, Body, Struct, Casetype, TypeDef, ZeroElement, RestNotLast}
 use Rattle.td_core.specs.declared.module.Element.TheVariants as element
 use Rattle.td_core.specs.Formed.{Bound, IsElementFormed, AreFieldsFormed, AreCasesFormed, IsDefaultFormed, IsBodyFormed, parts_scope, param_bounds, own_bounds}
 use Rattle.td_kinds.specs.Kinds.{element_kind, field_kind, kinds_below}
@@ -25,6 +25,7 @@ module _ (ds : List TypeDef) (n : ℕ) (one two : ℕ → Kind) (same : (j : ℕ
   kind_same e (Filling size step) h = refl
   kind_same e (OnceFilling size step) h = refl
   kind_same e (UpToZero size) h = ap (λ k. record { least = k.least; most = None; rest = false }) h
+  kind_same e (Given source) h = refl
 
   fields_same : (cells scope : List Bound) (fs : List Field) → AreFieldsFormed ds n cells scope fs → fields_faults one fs ≡ fields_faults two fs
   fields_same cells scope [] h = refl

@@ -1,7 +1,7 @@
 -- Definitions and modules.
-use Rattle.std.proofs.Common.{◌≡◌, ℕ, zero, suc, ◌+◌, ◌≤◌, Bool, true, false, cond, ◌||◌, List, [], ◌∷◌, length, refl, sym, ap, ◌∙◌, subst, arith, Option, Some, None, slice_get}
+use Rattle.std.proofs.Common.{◌≡◌, ℕ, zero, suc, ◌+◌, ◌≤◌, Bool, true, false, cond, ◌||◌, ◌&&◌, List, [], ◌∷◌, length, refl, sym, ap, ◌∙◌, subst, arith, Option, Some, None, slice_get}
 use Rattle.std.specs.Prelude.{nat_eq}
-use Rattle.std.proofs.lemmas.Bool.{eqb-false, or_parts}
+use Rattle.std.proofs.lemmas.Bool.{eqb-true, eqb-false, or_parts}
 use Rattle.std.proofs.lemmas.Option.{none-some, same_Some}
 use Rattle.std.proofs.lemmas.List.{append-nil}
 use Rattle.td_num.specs.Numbers.{places_from}
@@ -18,11 +18,11 @@ use Rattle.td_meaning.specs.Meaning.{Sense, refined, extended, fields_meaning, c
 use Rattle.td_write_values.specs.declared.limits.TheConstants.{MOST_WRITTEN}
 use Rattle.td_write_values.specs.Datum.{Datum, Number, Sequence, Bytes, Empty, list_of}
 use Rattle.td_write_values.specs.Bytes.{number_bytes, fits, unit_type, unit_number, makes_unit}
-use Rattle.td_write_values.specs.Spelling.{Spelling, joined, number_in, spelled_shape, part_numbers, with_number, spelled_parts, spelled_field, spelled_fields, body_fields, spelled_chosen, spelled_definition, spells_below, spelling}
-use Rattle.td_write_values.specs.Writing.{Written, Done, Refused, Writer, tested, fields_written, value_count, values_count, is_count, chosen_written, body_written, definition_written, writers_below, writing, whole}
+use Rattle.td_write_values.specs.Spelling.{Spelled, Spelling, Next, bytes_alone, only, behind, all_at, ended, bytes_of, number_in, spelled_copied, spelled_shape, after_parts, part_numbers, with_number, spelled_parts, spelled_field, spelled_fields, body_fields, spelled_chosen, spelled_definition, spells_below, spelling}
+use Rattle.td_write_values.specs.Writing.{Claim, Written, Done, Refused, Writer, wanted, agreed, settled, tested, fields_written, value_count, values_count, is_count, chosen_written, body_written, definition_written, writers_below, writing, whole}
 use Rattle.td_write_spells.specs.Laws.{FailsFor, IsExact, WritingIsExact}
-use Rattle.td_write_spells.proofs.Told.{Fit, UpTo, Told, joined_some, only_some, fails_then, fails_within, accepts_then, accepts_within, told_map, told_wanted, told_tested}
-use Rattle.td_write_spells.proofs.Parts.{refined_at, with_some}
+use Rattle.td_write_spells.proofs.Told.{Fit, UpTo, Told, AllAt, ends_of, behind_some, joined_some, ended_some, only_some, fails_then, fails_within, accepts_then, accepts_within, told_map, told_wanted, told_tested}
+use Rattle.td_write_spells.proofs.Parts.{refined_at, refined_left, with_some}
 use Rattle.td_write_spells.proofs.Contents.{before, nil_parts}
 use Rattle.td_write_spells.proofs.Fields.{fields_told}
 
@@ -41,38 +41,41 @@ parts_count t (part ∷ parts) (Sequence ws ∷ vs) ns rest e = absurd (none-som
 parts_count t (part ∷ parts) (Bytes bytes ∷ vs) ns rest e = absurd (none-some (ns, rest) e)
 parts_count t (part ∷ parts) (Empty ∷ vs) ns rest e = absurd (none-some (ns, rest) e)
 
-parts_some : (t : NumberType) (parts : List Part) (x : Option (List ℕ × List Datum)) (go : ℕ → List Datum → Option (List ℕ)) (s : List ℕ) → spelled_parts t parts x go ≡ Some s
-    → (ns : List ℕ) × (rest : List Datum) × (u : List ℕ) × (x ≡ Some (ns, rest)) × (go (unit_number parts ns) rest ≡ Some u)
-parts_some t parts None go s e = absurd (none-some s e)
-parts_some t parts (Some x) go s e =
-    let o = only_some (makes_unit t parts x.0) (joined (Some (number_bytes t (unit_number parts x.0))) (go (unit_number parts x.0) x.1)) s e in
-    let j = joined_some (Some (number_bytes t (unit_number parts x.0))) (go (unit_number parts x.0) x.1) s o.1 in
-    (x.0, x.1, j.1, refl, j.3)
+parts_some : (t : NumberType) (parts : List Part) (env places : List ℕ) (p : ℕ) (cells : List ℕ) (x : Option (List ℕ × List Datum)) (go : Next) (a : Spelled) → spelled_parts t parts env places p cells x go ≡ Some a
+    → (ns : List ℕ) × (rest : List Datum) × (q : ℕ) × (left : List ℕ) × (u : Spelled) × (x ≡ Some (ns, rest)) × (go (unit_number parts ns) q left rest ≡ Some u)
+parts_some t parts env places p cells None go a e = absurd (none-some a e)
+parts_some t parts env places p cells (Some x) go a e =
+    let n = unit_number parts x.0 in
+    let own = bytes_alone (number_bytes t n) (after_parts p n parts env places cells) in
+    let later = go n (p + length own.bytes) own.cells x.1 in
+    let o = only_some (makes_unit t parts x.0) (behind own later) a e in
+    let j = behind_some own later a o.1 in
+    (x.0, x.1, p + length own.bytes, own.cells, j.0, refl, j.1)
 
-counted : (spells : ℕ → Spelling) (fs : List Field) (env : List ℕ) (vs : List Datum) (s : List ℕ) → spelled_fields spells fs env vs ≡ Some s → length vs ≡ values_count fs
+counted : (spells : ℕ → Spelling) (fs : List Field) (env places : List ℕ) (p : ℕ) (cells : List ℕ) (vs : List Datum) (a : Spelled) → spelled_fields spells fs env places p cells vs ≡ Some a → length vs ≡ values_count fs
 unfolding spelled_fields
-counted spells [] env [] s e = refl
-counted spells [] env (v ∷ vs) s e = absurd (none-some s e)
-counted spells (f ∷ later) env vs s e = by (unit_type f.element f.extent) vs e (λ env vs s e. counted spells later env vs s e)
+counted spells [] env places p cells [] a e = refl
+counted spells [] env places p cells (v ∷ vs) a e = absurd (none-some a e)
+counted spells (f ∷ later) env places p cells vs a e = by (unit_type f.element f.extent) vs e (λ env q cells vs a e. counted spells later env places q cells vs a e)
   where
-    by : (o : Option NumberType) (vs : List Datum) → spelled_field spells o f env vs (λ n vs. spelled_fields spells later (extended env n f.parts) vs) ≡ Some s
-        → ((env : List ℕ) (vs : List Datum) (s : List ℕ) → spelled_fields spells later env vs ≡ Some s → length vs ≡ values_count later)
+    by : (o : Option NumberType) (vs : List Datum) → spelled_field spells o f env places p cells vs (λ n q cells vs. spelled_fields spells later (extended env n f.parts) places q cells vs) ≡ Some a
+        → ((env : List ℕ) (q : ℕ) (cells : List ℕ) (vs : List Datum) (a : Spelled) → spelled_fields spells later env places q cells vs ≡ Some a → length vs ≡ values_count later)
         → length vs ≡ value_count o f.parts + values_count later
-    by None [] e next = absurd (none-some s e)
+    by None [] e next = absurd (none-some a e)
     by None (v ∷ vs) e next =
-        let n = number_in f.element f.extent v in
-        let j = joined_some (spelled_shape spells f.element f.extent env v) (spelled_fields spells later (extended env n f.parts) vs) s e in
-        omega (arith, next (extended env n f.parts) vs j.1 j.3)
+        let n = number_in natural_of f.element f.extent env places cells v in
+        let j = joined_some (spelled_copied f.copy places p (spelled_shape spells f.element f.extent env places p cells v)) p (λ q cells. spelled_fields spells later (extended env n f.parts) places q (after_parts p n f.parts env places cells) vs) a e in
+        omega (arith, next (extended env n f.parts) (p + length j.0.bytes) (after_parts p n f.parts env places j.0.cells) vs j.1 j.3)
     by (Some t) vs e next =
-        let m = parts_some t f.parts (part_numbers t f.parts vs) (λ n vs. spelled_fields spells later (extended env n f.parts) vs) s e in
-        omega (arith, parts_count t f.parts vs m.0 m.1 m.3, next (extended env (unit_number f.parts m.0) f.parts) m.1 m.2 m.4)
+        let m = parts_some t f.parts env places p cells (part_numbers t f.parts vs) (λ n q cells vs. spelled_fields spells later (extended env n f.parts) places q cells vs) a e in
+        omega (arith, parts_count t f.parts vs m.0 m.1 m.5, next (extended env (unit_number f.parts m.0) f.parts) m.2 m.3 m.1 m.4 m.6)
 
-uncounted : (spells : ℕ → Spelling) (fs : List Field) (env : List ℕ) (vs : List Datum) → is_count fs vs ≡ false → spelled_fields spells fs env vs ≡ None
-uncounted spells fs env vs e = by (spelled_fields spells fs env vs) refl
+uncounted : (spells : ℕ → Spelling) (fs : List Field) (env places : List ℕ) (p : ℕ) (cells : List ℕ) (vs : List Datum) → is_count fs vs ≡ false → spelled_fields spells fs env places p cells vs ≡ None
+uncounted spells fs env places p cells vs e = by (spelled_fields spells fs env places p cells vs) refl
   where
-    by : (o : Option (List ℕ)) → spelled_fields spells fs env vs ≡ o → o ≡ None
+    by : (o : Option Spelled) → spelled_fields spells fs env places p cells vs ≡ o → o ≡ None
     by None h = refl
-    by (Some s) h = absurd (eqb-false (length vs) (values_count fs) e (counted spells fs env vs s h))
+    by (Some a) h = absurd (eqb-false (length vs) (values_count fs) e (counted spells fs env places p cells vs a h))
 
 -- Cases
 
@@ -142,13 +145,13 @@ narrowed false s p q end h f = subst (λ x. UpTo x p q end) (sym (h refl)) f
 
 module _ (sets : List (List ℕ)) (ds : List TypeDef) (kinds : ℕ → Kind) (senses : ℕ → Sense) (writers : ℕ → Writer) (spells : ℕ → Spelling)
     (good : (j : ℕ) (args places cells path : List ℕ) (p : ℕ) (v : Datum) → p ≤ MOST_WRITTEN
-    → Told (UpTo (kinds j).rest) p (writers j args places cells path p v) (spells j args v) (λ b end. (senses j args places cells b p end).ending)) where
+    → Told (UpTo (kinds j).rest) p (writers j args places cells path p v) (spells j args places cells p v) (λ b end. (senses j args places cells b p end).ending)) where
   counted_told : (Q : Fit) (d : TypeDef) (ty : NameId) (fs : List Field) → Each (IsFieldCopying ds d) fs → fields_faults kinds fs ≡ [] → (env places path : List ℕ) (p : ℕ) (cells : List ℕ) (vs : List Datum) (all : List ℕ → ℕ → Ending)
-      → ((b s post : List ℕ) (end : ℕ) → Q p (p + length s) end → (all b end ≡ (fields_meaning sets senses ty fs env places b end p cells).ending) × UpTo (fields_kind kinds fs).rest p (p + length s) end)
-      → p ≤ MOST_WRITTEN → Told Q p (fields_written whole sets writers ty fs env places path 0 p cells vs) (spelled_fields spells fs env vs) all
+      → ((b s : List ℕ) (end : ℕ) → Q p (p + length s) end → (all b end ≡ (fields_meaning sets senses ty fs env places b end p cells).ending) × UpTo (fields_kind kinds fs).rest p (p + length s) end)
+      → p ≤ MOST_WRITTEN → Told Q p (fields_written whole sets writers ty fs env places path 0 p cells vs) (spelled_fields spells fs env places p cells vs) all
   counted_told Q d ty fs alone k env places path p cells vs all on le =
-      told_map Q (UpTo (fields_kind kinds fs).rest) p (fields_written whole sets writers ty fs env places path 0 p cells vs) (spelled_fields spells fs env vs) (λ b end. (fields_meaning sets senses ty fs env places b end p cells).ending) all
-      (λ b s post end e at fit. on b s post end fit)
+      told_map Q (UpTo (fields_kind kinds fs).rest) p (fields_written whole sets writers ty fs env places path 0 p cells vs) (spelled_fields spells fs env places p cells vs) (λ b end. (fields_meaning sets senses ty fs env places b end p cells).ending) all
+      (λ b post x end e at fit. on b x.bytes end fit)
       (fields_told sets kinds senses writers spells good ty ds d fs alone k env places path 0 p cells vs le)
 
   abbrev meant : TypeDef → Body → List ℕ → List ℕ → List ℕ → ℕ → List ℕ → ℕ → Ending
@@ -168,15 +171,16 @@ module _ (sets : List (List ℕ)) (ds : List TypeDef) (kinds : ℕ → Kind) (se
       fails_then reason (ending_within place guard.ending) guard.reads (body_meaning sets senses d.name body args places b end) (fails_within reason place guard.ending h)
 
   body_told : (d : TypeDef) (body : Body) → EachField (IsFieldCopying ds d) body → body_faults kinds body ≡ [] → (args places cells path : List ℕ) (p : ℕ) (vs : List Datum) → p ≤ MOST_WRITTEN
-      → Told (UpTo (body_kind kinds body).rest) p (body_written whole sets writers d body args places path p cells vs) (spelled_chosen spells (body_fields body args) args vs) (meant d body args places cells p)
+      → Told (UpTo (body_kind kinds body).rest) p (body_written whole sets writers d body args places path p cells vs) (spelled_chosen spells (body_fields body args) args places p cells vs) (meant d body args places cells p)
   body_told d (Struct fs) alone k args places cells path p vs le =
       let Q = UpTo (fields_kind kinds fs).rest in
       let guard = refined d.guard args p p cells in
       let go = λ (cells : List ℕ). fields_written whole sets writers d.name fs args places path 0 p cells vs in
-      told_wanted Q p (is_count fs vs) Shape path (tested guard.ending path go) (spelled_fields spells fs args vs) (meant d (Struct fs) args places cells p)
-      (λ e. uncounted spells fs args vs e)
-      (λ e. told_tested Q p p guard.ending path go (spelled_fields spells fs args vs) (meant d (Struct fs) args places cells p)
-      (λ more h. counted_told Q d d.name fs alone k args places path p more vs (meant d (Struct fs) args places cells p) (λ b s post end fit. (guarded d (Struct fs) args places cells p more b end h, fit)) le)
+      told_wanted Q p (is_count fs vs) Shape path (tested guard.ending path go) (spelled_fields spells fs args places p cells vs) (meant d (Struct fs) args places cells p)
+      (λ e. uncounted spells fs args places p cells vs e)
+      (λ e. told_tested Q p p guard.ending path go (spelled_fields spells fs args places p cells vs) (meant d (Struct fs) args places cells p)
+      (λ more h. subst (λ cs. Told Q p (go more) (spelled_fields spells fs args places p cs vs) (meant d (Struct fs) args places cells p)) (sym (refined_left d.guard args p p p cells more h))
+      (counted_told Q d d.name fs alone k args places path p more vs (meant d (Struct fs) args places cells p) (λ b s end fit. (guarded d (Struct fs) args places cells p more b end h, fit)) le))
       (λ r more h. refined_at d.guard args p p r cells more h)
       (λ reason b end h. unguarded reason d (Struct fs) args places cells p b end h))
   body_told d (Casetype switch cases default) alone k args places cells path p vs le =
@@ -184,29 +188,30 @@ module _ (sets : List (List ℕ)) (ds : List TypeDef) (kinds : ℕ → Kind) (se
       let Q = UpTo (body_kind kinds body).rest in
       let guard = refined d.guard args p p cells in
       let n = natural_of switch args in
-      told_tested Q p p guard.ending path (λ cells. chosen_written whole sets writers d.name (case_for n cases default) args places path p cells vs) (spelled_chosen spells (case_for n cases default) args vs) (meant d body args places cells p)
+      told_tested Q p p guard.ending path (λ cells. chosen_written whole sets writers d.name (case_for n cases default) args places path p cells vs) (spelled_chosen spells (case_for n cases default) args places p cells vs) (meant d body args places cells p)
       (λ more h. by more h (case_for n cases default) refl)
       (λ r more h. refined_at d.guard args p p r cells more h)
       (λ reason b end h. unguarded reason d body args places cells p b end h)
     where
       by : (more : List ℕ) → (refined d.guard args p p cells).ending ≡ Accepted p more → (o : Option (List Field)) → case_for (natural_of switch args) cases default ≡ o
-          → Told (UpTo (body_kind kinds (Casetype switch cases default)).rest) p (chosen_written whole sets writers d.name o args places path p more vs) (spelled_chosen spells o args vs) (meant d (Casetype switch cases default) args places cells p)
-      by more h None e = λ b s post end f at fit. absurd (none-some s f)
+          → Told (UpTo (body_kind kinds (Casetype switch cases default)).rest) p (chosen_written whole sets writers d.name o args places path p more vs) (spelled_chosen spells o args places p cells vs) (meant d (Casetype switch cases default) args places cells p)
+      by more h None e = λ b post x end f at fit ends. absurd (none-some x f)
       by more h (Some fs) e =
           let body = Casetype switch cases default in
           let Q = UpTo (body_kind kinds body).rest in
           let two = nil_parts (cases_faults kinds cases) (default_faults kinds default) k in
-          told_wanted Q p (is_count fs vs) Shape path (fields_written whole sets writers d.name fs args places path 0 p more vs) (spelled_fields spells fs args vs) (meant d body args places cells p)
-          (λ c. uncounted spells fs args vs c)
-          (λ c. counted_told Q d d.name fs (chosen_each (IsFieldCopying ds d) (natural_of switch args) cases default fs e alone.0 alone.1) (chosen_faults kinds (natural_of switch args) cases default fs e two.0 two.1) args places path p more vs (meant d body args places cells p)
-          (λ b s post end fit. (
+          told_wanted Q p (is_count fs vs) Shape path (fields_written whole sets writers d.name fs args places path 0 p more vs) (spelled_fields spells fs args places p cells vs) (meant d body args places cells p)
+          (λ c. uncounted spells fs args places p cells vs c)
+          (λ c. subst (λ cs. Told Q p (fields_written whole sets writers d.name fs args places path 0 p more vs) (spelled_fields spells fs args places p cs vs) (meant d body args places cells p)) (sym (refined_left d.guard args p p p cells more h))
+          (counted_told Q d d.name fs (chosen_each (IsFieldCopying ds d) (natural_of switch args) cases default fs e alone.0 alone.1) (chosen_faults kinds (natural_of switch args) cases default fs e two.0 two.1) args places path p more vs (meant d body args places cells p)
+          (λ b s end fit. (
             guarded d body args places cells p more b end h ∙ ap (λ o. (chosen_meaning sets senses d.name o args places b end p more).ending) e,
             narrowed (body_kind kinds body).rest (fields_kind kinds fs).rest p (p + length s) end (chosen_rest kinds (natural_of switch args) cases default (default_kind kinds default) fs (default_rest kinds default) e) fit,
-          )) le)
+          )) le))
 
   pub definition_told : (o : Option TypeDef) → ((d : TypeDef) → o ≡ Some d → IsDefinitionCopying ds d) → ((d : TypeDef) → o ≡ Some d → body_faults kinds d.body ≡ []) → (args places cells path : List ℕ) (p : ℕ) (v : Datum) → p ≤ MOST_WRITTEN
-      → Told (UpTo (definition_kind kinds o).rest) p (definition_written whole sets writers o args places cells path p v) (spelled_definition spells o args v) (λ b end. (definition_meaning sets senses o args places cells b p end).ending)
-  definition_told None alone k args places cells path p v le = λ b s post end e at fit. absurd (none-some s e)
+      → Told (UpTo (definition_kind kinds o).rest) p (definition_written whole sets writers o args places cells path p v) (spelled_definition spells o args places cells p v) (λ b end. (definition_meaning sets senses o args places cells b p end).ending)
+  definition_told None alone k args places cells path p v le = λ b post x end e at fit ends. absurd (none-some x e)
   definition_told (Some d) alone k args places cells path p (Number n) le = refl
   definition_told (Some d) alone k args places cells path p (Sequence vs) le = body_told d d.body (alone d refl).fields (k d refl) args places cells path p (list_of vs) le
   definition_told (Some d) alone k args places cells path p (Bytes bytes) le = refl
@@ -214,19 +219,19 @@ module _ (sets : List (List ℕ)) (ds : List TypeDef) (kinds : ℕ → Kind) (se
 
 all_told : (sets : List (List ℕ)) (ds : List TypeDef) → Each (IsDefinitionCopying ds) ds → ((n : ℕ) (d : TypeDef) → slice_get ds n ≡ Some d → body_faults (kinds_below ds n) d.body ≡ [])
     → (n j : ℕ) (args places cells path : List ℕ) (p : ℕ) (v : Datum) → p ≤ MOST_WRITTEN
-    → Told (UpTo (kinds_below ds n j).rest) p (writers_below whole sets ds n j args places cells path p v) (spells_below ds n j args v) (λ b end. (below sets ds n j args places cells b p end).ending)
+    → Told (UpTo (kinds_below ds n j).rest) p (writers_below whole sets ds n j args places cells path p v) (spells_below ds n j args places cells p v) (λ b end. (below sets ds n j args places cells b p end).ending)
 unfolding below kinds_below writers_below spells_below
-all_told sets ds copying k zero j args places cells path p v le = λ b s post end e at fit. absurd (none-some s e)
+all_told sets ds copying k zero j args places cells path p v le = λ b post x end e at fit ends. absurd (none-some x e)
 all_told sets ds copying k (suc n) j args places cells path p v le =
     by (nat_eq j n)
     (definition_told sets ds (kinds_below ds n) (below sets ds n) (writers_below whole sets ds n) (spells_below ds n) (λ i. all_told sets ds copying k n i) (slice_get ds n) (λ d e. each_at (IsDefinitionCopying ds) ds n d copying e) (λ d e. k n d e) args places cells path p v le)
     (all_told sets ds copying k n j args places cells path p v le)
   where
     by : (x : Bool)
-        → Told (UpTo (definition_kind (kinds_below ds n) (slice_get ds n)).rest) p (definition_written whole sets (writers_below whole sets ds n) (slice_get ds n) args places cells path p v) (spelled_definition (spells_below ds n) (slice_get ds n) args v) (λ b end. (definition_meaning sets (below sets ds n) (slice_get ds n) args places cells b p end).ending)
-        → Told (UpTo (kinds_below ds n j).rest) p (writers_below whole sets ds n j args places cells path p v) (spells_below ds n j args v) (λ b end. (below sets ds n j args places cells b p end).ending)
+        → Told (UpTo (definition_kind (kinds_below ds n) (slice_get ds n)).rest) p (definition_written whole sets (writers_below whole sets ds n) (slice_get ds n) args places cells path p v) (spelled_definition (spells_below ds n) (slice_get ds n) args places cells p v) (λ b end. (definition_meaning sets (below sets ds n) (slice_get ds n) args places cells b p end).ending)
+        → Told (UpTo (kinds_below ds n j).rest) p (writers_below whole sets ds n j args places cells path p v) (spells_below ds n j args places cells p v) (λ b end. (below sets ds n j args places cells b p end).ending)
         → Told (UpTo (pick_kind x (definition_kind (kinds_below ds n) (slice_get ds n)) (kinds_below ds n j)).rest) p (pick x (definition_written whole sets (writers_below whole sets ds n) (slice_get ds n)) (writers_below whole sets ds n j) args places cells path p v)
-        (pick x (spelled_definition (spells_below ds n) (slice_get ds n)) (spells_below ds n j) args v) (λ b end. (pick x (definition_meaning sets (below sets ds n) (slice_get ds n)) (below sets ds n j) args places cells b p end).ending)
+        (pick x (spelled_definition (spells_below ds n) (slice_get ds n)) (spells_below ds n j) args places cells p v) (λ b end. (pick x (definition_meaning sets (below sets ds n) (slice_get ds n)) (below sets ds n j) args places cells b p end).ending)
     by true own rest = own
     by false own rest = rest
 
@@ -236,19 +241,52 @@ whole_fit : (r : Bool) (n : ℕ) → UpTo r 0 (0 + n) n
 whole_fit true n = omega arith
 whole_fit false n = omega arith
 
-exact_of : (r : Bool) (w : Written) (sp : Option (List ℕ)) (means : List ℕ → ℕ → Ending) → Told (UpTo r) 0 w sp means → IsExact w sp (λ bytes. means bytes (length bytes))
-exact_of r (Done s cells) sp means h =
+-- a whole message ends where its bytes end
+exact_agreed : (s cells : List ℕ) (means : List ℕ → Ending) (claims : List Claim) → (AllAt (0 + length s) (ends_of claims) → IsExact (Done s cells []) (Some s) means)
+    → IsExact (agreed (0 + length s) claims (Done s cells [])) (bytes_of (only (all_at (0 + length s) (ends_of claims)) (Some (bytes_alone s cells)))) means
+exact_agreed s cells means [] h = h tt
+exact_agreed s cells means (c ∷ cs) h = by (nat_eq c.end (0 + length s)) refl (λ k. exact_agreed s cells means cs k)
+  where
+    by : (v : Bool) → nat_eq c.end (0 + length s) ≡ v
+        → ((AllAt (0 + length s) (ends_of cs) → IsExact (Done s cells []) (Some s) means) → IsExact (agreed (0 + length s) cs (Done s cells [])) (bytes_of (only (all_at (0 + length s) (ends_of cs)) (Some (bytes_alone s cells)))) means)
+        → IsExact (wanted v Size c.path (agreed (0 + length s) cs (Done s cells []))) (bytes_of (only (v && all_at (0 + length s) (ends_of cs)) (Some (bytes_alone s cells)))) means
+    by true e rest = rest (λ later. h (eqb-true c.end (0 + length s) e, later))
+    by false e rest = refl
+
+bytes_some : (sp : Option Spelled) (bytes : List ℕ) → bytes_of (ended 0 sp) ≡ Some bytes → (x : Spelled) × (sp ≡ Some x) × (AllAt (0 + length x.bytes) x.ends) × (x.bytes ≡ bytes)
+bytes_some sp bytes e = by (ended 0 sp) refl e
+  where
+    by : (o : Option Spelled) → ended 0 sp ≡ o → bytes_of o ≡ Some bytes → (x : Spelled) × (sp ≡ Some x) × (AllAt (0 + length x.bytes) x.ends) × (x.bytes ≡ bytes)
+    by None h e = absurd (none-some bytes e)
+    by (Some a) h e =
+        let z = ended_some 0 sp a h in
+        (z.0, z.1, z.2, ap (λ (y : Spelled). y.bytes) z.3 ∙ same_Some a.bytes bytes e)
+
+exact_of : (r : Bool) (w : Written) (sp : Option Spelled) (means : List ℕ → ℕ → Ending) → Told (UpTo r) 0 w sp means → IsExact (settled 0 w) (bytes_of (ended 0 sp)) (λ bytes. means bytes (length bytes))
+exact_of r (Done s cells claims) sp means h =
     let same : 0 + length s ≡ length s = omega arith in
-    (h.0, (omega (arith, h.1.0), h.1.1 s [] (length s) (sym (append-nil s)) (whole_fit r (length s)) ∙ ap (λ q. Accepted q cells) same))
-exact_of r (Refused Shape path) sp means h = h
-exact_of r (Refused Range path) sp means h = h
-exact_of r (Refused (Broken reason) path) sp means h = λ bytes e. h bytes bytes [] (length bytes) e (sym (append-nil bytes)) (whole_fit r (length bytes))
-exact_of r (Refused Size path) sp means h = h
-exact_of r (Refused Long path) sp means h = λ bytes e. let long = h bytes e in omega (arith, long)
+    subst (λ o. IsExact (agreed (0 + length s) claims (Done s cells [])) (bytes_of (ended 0 o)) (λ bytes. means bytes (length bytes))) (sym h.0)
+    (exact_agreed s cells (λ bytes. means bytes (length bytes)) claims (λ there.
+    (refl, (omega (arith, h.1.0), h.1.1 s [] (length s) (sym (append-nil s)) (whole_fit r (length s)) (subst (λ n. AllAt n (ends_of claims)) same there) ∙ ap (λ q. Accepted q cells) same))))
+exact_of r (Refused Shape path) sp means h = ap (λ o. bytes_of (ended 0 o)) h
+exact_of r (Refused Range path) sp means h = ap (λ o. bytes_of (ended 0 o)) h
+exact_of r (Refused (Broken reason) path) sp means h = λ bytes e.
+    let z = bytes_some sp bytes e in
+    let x : Spelled = z.0 in
+    let same : 0 + length x.bytes ≡ length x.bytes = omega arith in
+    subst (λ y. FailsFor reason (means y (length y))) z.3
+    (h x.bytes [] x (length x.bytes) z.1 (sym (append-nil x.bytes)) (whole_fit r (length x.bytes)) (subst (λ n. AllAt n x.ends) same z.2))
+exact_of r (Refused Size path) sp means h = ap (λ o. bytes_of (ended 0 o)) h
+exact_of r (Refused Long path) sp means h = λ bytes e.
+    let z = bytes_some sp bytes e in
+    let long = h z.0 z.1 in
+    omega (arith, long, ap length z.3)
 
 pub writing_is_exact : WritingIsExact
 writing_is_exact m entry args cells v copying k =
     let n = length m.definitions in
     let j = entry_place (slice_get m.entries entry.number) n in
-    exact_of (kinds_below m.definitions n j).rest (writing whole m entry args cells v) (spelling m entry args v) (λ b end. (below m.listed m.definitions n j args (places_from 0 (length cells)) cells b 0 end).ending)
-    (all_told m.listed m.definitions copying k n j args (places_from 0 (length cells)) cells [] 0 v (omega arith))
+    let places = places_from 0 (length cells) in
+    exact_of (kinds_below m.definitions n j).rest (writers_below whole m.listed m.definitions n j args places cells [] 0 v) (spells_below m.definitions n j args places cells 0 v)
+    (λ b end. (below m.listed m.definitions n j args places cells b 0 end).ending)
+    (all_told m.listed m.definitions copying k n j args places cells [] 0 v (omega arith))

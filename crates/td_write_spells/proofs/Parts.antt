@@ -5,16 +5,17 @@ use Rattle.std.proofs.lemmas.Bool.{leb-false, eqb-true, and_parts}
 use Rattle.std.proofs.lemmas.Option.{none-some, same_Some}
 use Rattle.std.proofs.lemmas.List.{append-nil}
 use Rattle.td_num.specs.Numbers.{bytes_in}
-use Rattle.td_write_spells.specs.Imports.{NumberType, NameId, Part, Reason, WriteRule, Shape, Range, Broken, Size, Long}
-use Rattle.td_core.specs.Term.{Term}
-use Rattle.td_core.specs.Outcome.{Ending, Accepted, Rejected, and_then, within, ending_within}
-use Rattle.td_meaning.specs.Meaning.{refined, checked, parts_meaning, bits_of, extended, field_place}
+use Rattle.td_write_spells.specs.Imports.{NumberType, NameId, Part, Reason, Constraint, Action as ActionFails, WriteRule, Shape, Range, Broken, Size, Long}
+use Rattle.td_core.specs.Term.{Term, Deed}
+use Rattle.td_core.specs.Outcome.{Ending, Accepted, Rejected, onward, and_then, frame_at, within, ending_within}
+use Rattle.td_meaning.specs.Doing.{Effect, On, Returned, Aborted, doing, is_true}
+use Rattle.td_meaning.specs.Meaning.{demanded, refined, acted, ended, checked, parts_meaning, bits_of, extended, field_place}
 use Rattle.td_meaning.specs.Throughout.{OnEnding}
 use Rattle.td_meaning.proofs.Staying.{Stays, refined_stays, checked_stays, parts_stay}
 use Rattle.td_write_values.specs.declared.limits.TheConstants.{MOST_WRITTEN}
 use Rattle.td_write_values.specs.Datum.{Datum, Number, Sequence, Bytes, Empty}
 use Rattle.td_write_values.specs.Bytes.{fits, are_bits_of}
-use Rattle.td_write_values.specs.Spelling.{only, with_number, part_numbers}
+use Rattle.td_write_values.specs.Spelling.{only, with_number, part_numbers, left_by, after_action, after_parts}
 use Rattle.td_write_values.specs.Writing.{Written, Refused, wanted, tested, has_room, parts_written, whole}
 use Rattle.td_write_spells.specs.Laws.{FailsFor}
 use Rattle.td_write_spells.proofs.Told.{only_some, fails_then, fails_within, accepts_then, accepts_within}
@@ -32,6 +33,55 @@ checked_at p env places start q r cells more e = on_accepted (checked p env plac
 
 pub parts_at : (ty : NameId) (start n : ℕ) (ps : List Part) (env places : List ℕ) (q r : ℕ) (cells more : List ℕ) → (parts_meaning ty start n ps env places q cells).ending ≡ Accepted r more → r ≡ q
 parts_at ty start n ps env places q r cells more e = on_accepted (parts_meaning ty start n ps env places q cells).ending (Stays q) r more (parts_stay ty start n ps env places q cells) e
+
+-- The cells behind parts that passed are those that their actions left
+
+same_cells : (q r : ℕ) (cells last : List ℕ) → Accepted q cells ≡ Accepted r last → cells ≡ last
+same_cells q r cells last e = cc
+
+ended_left : (o : Effect) (start q r : ℕ) (last : List ℕ) → (ended o start q).ending ≡ Accepted r last → left_by o ≡ last
+ended_left (On cells) start q r last e = same_cells q r cells last e
+ended_left (Returned true cells) start q r last e = same_cells q r cells last e
+ended_left (Returned false cells) start q r last e = absurd (let f : Rejected ActionFails start [] cells ≡ Accepted r last = e in cc)
+ended_left (Aborted cells) start q r last e = absurd (let f : Rejected ActionFails start [] cells ≡ Accepted r last = e in cc)
+
+acted_left : (a : Option Deed) (env places : List ℕ) (start q r : ℕ) (cells last : List ℕ) → (acted a env places start q cells).ending ≡ Accepted r last → after_action a env places start cells ≡ last
+acted_left None env places start q r cells last e = same_cells q r cells last e
+acted_left (Some action) env places start q r cells last e = ended_left (doing action (env ++ start ∷ []) places cells) start q r last e
+
+tested_left : (g : Option Term) (a : Option Deed) (env places : List ℕ) (start q r : ℕ) (cells last : List ℕ) → (and_then (refined g env start q cells) (acted a env places start)).ending ≡ Accepted r last
+    → after_action a env places start cells ≡ last
+tested_left None a env places start q r cells last e = acted_left a env places start q r cells last e
+tested_left (Some test) a env places start q r cells last e = by (is_true test env) e
+  where
+    by : (v : Bool) → (and_then (demanded Constraint v start q cells) (acted a env places start)).ending ≡ Accepted r last → after_action a env places start cells ≡ last
+    by true e = acted_left a env places start q r cells last e
+    by false e = absurd (let f : Rejected Constraint start [] cells ≡ Accepted r last = e in cc)
+
+pub refined_left : (g : Option Term) (env : List ℕ) (start q r : ℕ) (cells last : List ℕ) → (refined g env start q cells).ending ≡ Accepted r last → cells ≡ last
+refined_left None env start q r cells last e = same_cells q r cells last e
+refined_left (Some test) env start q r cells last e = by (is_true test env) e
+  where
+    by : (v : Bool) → (demanded Constraint v start q cells).ending ≡ Accepted r last → cells ≡ last
+    by true e = same_cells q r cells last e
+    by false e = absurd (let f : Rejected Constraint start [] cells ≡ Accepted r last = e in cc)
+
+pub parts_left : (ty : NameId) (start n : ℕ) (ps : List Part) (env places : List ℕ) (q r : ℕ) (cells last : List ℕ) → (parts_meaning ty start n ps env places q cells).ending ≡ Accepted r last
+    → after_parts start n ps env places cells ≡ last
+unfolding parts_meaning
+parts_left ty start n [] env places q r cells last e = same_cells q r cells last e
+parts_left ty start n (p ∷ ps) env places q r cells last e =
+    let c = checked p (env ++ bits_of p.bits n ∷ []) places start q cells in
+    by c.ending refl c.reads e (λ s more e. parts_left ty start n ps (env ++ bits_of p.bits n ∷ []) places s r more last e)
+  where
+    by : (o : Ending) → (checked p (env ++ bits_of p.bits n ∷ []) places start q cells).ending ≡ o → (reads : List ℕ)
+        → (onward (ending_within (field_place ty p.name start) o) reads (parts_meaning ty start n ps (env ++ bits_of p.bits n ∷ []) places)).ending ≡ Accepted r last
+        → ((s : ℕ) (more : List ℕ) → (parts_meaning ty start n ps (env ++ bits_of p.bits n ∷ []) places s more).ending ≡ Accepted r last → after_parts start n ps (env ++ bits_of p.bits n ∷ []) places more ≡ last)
+        → after_parts start n (p ∷ ps) env places cells ≡ last
+    by (Accepted s more) h reads e later =
+        ap (after_parts start n ps (env ++ bits_of p.bits n ∷ []) places) (tested_left p.refinement p.action (env ++ bits_of p.bits n ∷ []) places start q s cells more h)
+        ∙ later s more e
+    by (Rejected reason s trace more) h reads e later = absurd (let f : Rejected reason s (trace ++ frame_at (field_place ty p.name start) reason ∷ []) more ≡ Accepted r last = e in cc)
 
 -- Parts
 

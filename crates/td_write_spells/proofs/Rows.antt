@@ -1,12 +1,12 @@
 -- The rows, by computation.
 use Rattle.std.proofs.Common.{refl}
 use Rattle.td_meaning.specs.Meaning.{parts_meaning}
-use Rattle.td_write_values.specs.Spelling.{spelled_fields, spells_below}
+use Rattle.td_write_values.specs.Spelling.{spelled_items, spelled_fields, spells_below}
 use Rattle.td_write_values.specs.Writing.{items_written, parts_written, fields_written, writers_below}
 use Rattle.td_write_spells.specs.Rows.{RowsHold}
 
 pub rows_hold : RowsHold
-unfolding parts_meaning spelled_fields spells_below items_written parts_written fields_written writers_below
+unfolding parts_meaning spelled_items spelled_fields spells_below items_written parts_written fields_written writers_below
 rows_hold = record {
   written_P = refl;
   spelled_P = refl;
@@ -51,4 +51,17 @@ rows_hold = record {
   copied_size = refl;
   copied_again = refl;
   one_buffer = refl;
+  left = refl;
+  left_wrong = refl;
+  left_unspelled = refl;
+  left_wide = refl;
+  left_inside = refl;
+  left_outside = refl;
+  left_last = refl;
+  left_before = refl;
+  left_tested = refl;
+  narrowed = refl;
+  narrow_told = refl;
+  narrow_broken = refl;
+  cell_before = refl;
 }

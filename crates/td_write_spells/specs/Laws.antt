@@ -24,10 +24,10 @@ FailsFor reason (Accepted position cells) = ⊥
 FailsFor reason (Rejected other position trace cells) = reason ≡ other
 
 -- what was written spells the value, within the limit, and the meaning accepts it to its end with the same cells; a value
--- that is refused for its shape, a number's range or an array's size isn't spelled at all; the meaning fails on the bytes
+-- that is refused for its shape, a number's range, an array's size or the bytes left isn't spelled at all; the meaning fails on the bytes
 -- of one that is refused for a test, for the same reason; and those of one that is too long pass the limit
 abbrev pub IsExact : Written → Option (List ℕ) → (List ℕ → Ending) → Type 0
-IsExact (Done bytes cells) spelled means = (spelled ≡ Some bytes) × ((length bytes ≤ MOST_WRITTEN) × (means bytes ≡ Accepted (length bytes) cells))
+IsExact (Done bytes cells claims) spelled means = (spelled ≡ Some bytes) × ((length bytes ≤ MOST_WRITTEN) × (means bytes ≡ Accepted (length bytes) cells))
 IsExact (Refused Shape path) spelled means = spelled ≡ None
 IsExact (Refused Range path) spelled means = spelled ≡ None
 IsExact (Refused (Broken reason) path) spelled means = (bytes : List ℕ) → spelled ≡ Some bytes → FailsFor reason (means bytes)
@@ -38,7 +38,7 @@ IsExact (Refused Long path) spelled means = (bytes : List ℕ) → spelled ≡ S
 abbrev pub WritingIsExact : Type 0
 WritingIsExact =
     (m : Module) (entry : Entry) (args cells : List ℕ) (v : Datum) → IsCopying m → AreKindsAdmitted m →
-    IsExact (writing whole m entry args cells v) (spelling m entry args v) (λ bytes. (meaning m entry args cells bytes).ending)
+    IsExact (writing whole m entry args cells v) (spelling m entry args cells v) (λ bytes. (meaning m entry args cells bytes).ending)
 
 -- in a formed module none of whose kinds is refused this is so
 abbrev pub KindsAreAdmitted : Type 0
@@ -58,4 +58,4 @@ abbrev mutual
 
 -- then what spells it are bytes too
 abbrev pub SpelledAreBytes : Type 0
-SpelledAreBytes = (m : Module) (entry : Entry) (args : List ℕ) (v : Datum) (bytes : List ℕ) → HoldsBytes v → spelling m entry args v ≡ Some bytes → All (λ b. b < 256) bytes
+SpelledAreBytes = (m : Module) (entry : Entry) (args cells : List ℕ) (v : Datum) (bytes : List ℕ) → HoldsBytes v → spelling m entry args cells v ≡ Some bytes → All (λ b. b < 256) bytes

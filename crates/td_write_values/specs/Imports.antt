@@ -1,13 +1,16 @@
 -- Types of the crates below, by one path. Other crates don't see this file's names: a library passes on its own definitions alone.
 pub use Rattle.td_core.specs.declared.module.Body.{Body}
 pub use Rattle.td_core.specs.declared.module.Body.TheVariants.{Casetype, Struct}
+pub use Rattle.td_core.specs.declared.module.CopyOut.{CopyOut}
 pub use Rattle.td_core.specs.declared.module.Element.{Element}
 pub use Rattle.td_core.specs.declared.module.Entry.{Entry}
 pub use Rattle.td_core.specs.declared.module.Extent.{Extent}
-pub use Rattle.td_core.specs.declared.module.Extent.TheVariants.{Filling, Once, OnceFilling, UpToZero}
+pub use Rattle.td_core.specs.declared.module.Extent.TheVariants.{Filling, Given, Once, OnceFilling, UpToZero}
 pub use Rattle.td_core.specs.declared.module.Field.{Field}
 pub use Rattle.td_core.specs.declared.module.Module.{Module}
 pub use Rattle.td_core.specs.declared.module.Part.{Part}
+pub use Rattle.td_core.specs.declared.module.Source.{Source}
+pub use Rattle.td_core.specs.declared.module.Source.TheVariants.{Cell as FromCell, Expression, Left}
 pub use Rattle.td_core.specs.declared.module.TypeDef.{TypeDef}
 pub use Rattle.td_num.specs.declared.number.ByteOrder.{ByteOrder}
 pub use Rattle.td_num.specs.declared.number.ByteOrder.TheVariants.{BigEndian, LittleEndian}

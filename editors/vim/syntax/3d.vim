@@ -16,7 +16,7 @@ syntax match threedError "\<\d\w*"
 
 syntax keyword threedStructure typedef struct casetype enum output mutable entrypoint where
 " It begins a part where a name follows and is no field: it is no keyword.
-syntax match threedStructure "^\s*\zsmodule\ze\s\+\h\w*\>\%(\s*[:;{\[]\)\@!"
+syntax match threedStructure "^\s*\zsmodule\ze\s\+\h\w*\>\%(\s*[:;={\[]\)\@!"
 syntax keyword threedConditional switch if else
 syntax keyword threedLabel case default
 syntax keyword threedStatement return abort var
@@ -24,6 +24,8 @@ syntax keyword threedType UINT8 UINT16 UINT32 UINT64 UINT8BE UINT16BE UINT32BE U
 syntax keyword threedType PUINT8 unit all_bytes all_zeros
 syntax keyword threedConstant true false this field_pos field_ptr
 syntax keyword threedFunction sizeof is_range_okay
+" How many bytes are left, where it is all that stands behind a field's `=`: it is no keyword.
+syntax match threedConstant "=\s*\zsbytes_left\>\ze\s*[;{]"
 
 syntax match threedNumber "\<\d\+\>"
 syntax match threedNumber "\<0[xX]\x\+\>"

@@ -1,6 +1,7 @@
 use Rattle.std.proofs.Common.{◌≡◌, ◌+◌, ◌*◌, ◌≤◌, drop, length}
 use Rattle.td_write_values.specs.declared.limits.TheConstants.{MOST_WRITTEN}
 use Rattle.td_write_values.specs.Writing.{after_writing, items_written, element_written, fields_written, writers_below, in_machine}
+use Rattle.td_write.specs.Writes.{claims_of}
 use Rattle.td_write.proofs.+types.Given as goal
 
 abbrev pub decreases-types::named : goal.decreases-types::named
@@ -38,8 +39,8 @@ abbrev pub invariant-fields::counted-loop-field : goal.invariant-fields::counted
 invariant-fields::counted-loop-field l = record {
   room : length l.draft.out.items ≤ MOST_WRITTEN;
   back : l.draft.path.items ≡ l.fn.draft.path.items;
-  total : after_writing l.fn.draft.out.items (fields_written in_machine l.walk.m.now.listed (writers_below in_machine l.walk.m.now.listed l.walk.m.now.definitions l.walk.bound) l.ty l.fields l.args l.walk.places.now l.fn.draft.path.items 0 (length l.fn.draft.out.items) l.fn.cells l.values)
-      ≡ after_writing l.draft.out.items (fields_written in_machine l.walk.m.now.listed (writers_below in_machine l.walk.m.now.listed l.walk.m.now.definitions l.walk.bound) l.ty (drop l.field-index l.fields) l.env.items l.walk.places.now l.fn.draft.path.items l.index (length l.draft.out.items) l.cells (drop l.index l.values));
+  total : after_writing l.fn.draft.out.items (claims_of l.fn.draft.claims.items) (fields_written in_machine l.walk.m.now.listed (writers_below in_machine l.walk.m.now.listed l.walk.m.now.definitions l.walk.bound) l.ty l.fields l.args l.walk.places.now l.fn.draft.path.items 0 (length l.fn.draft.out.items) l.fn.cells l.values)
+      ≡ after_writing l.draft.out.items (claims_of l.draft.claims.items) (fields_written in_machine l.walk.m.now.listed (writers_below in_machine l.walk.m.now.listed l.walk.m.now.definitions l.walk.bound) l.ty (drop l.field-index l.fields) l.env.items l.walk.places.now l.fn.draft.path.items l.index (length l.draft.out.items) l.cells (drop l.index l.values));
 }
 
 -- what is left of the elements decides the whole
@@ -47,6 +48,6 @@ abbrev pub invariant-arrays::items-loop-index : goal.invariant-arrays::items-loo
 invariant-arrays::items-loop-index l = record {
   room : length l.draft.out.items ≤ MOST_WRITTEN;
   back : l.draft.path.items ≡ l.fn.draft.path.items;
-  total : after_writing l.fn.draft.out.items (items_written (element_written in_machine l.walk.m.now.listed (writers_below in_machine l.walk.m.now.listed l.walk.m.now.definitions l.walk.bound) l.element l.env l.walk.places.now) l.fn.draft.path.items 0 (length l.fn.draft.out.items) l.fn.cells l.values)
-      ≡ after_writing l.draft.out.items (items_written (element_written in_machine l.walk.m.now.listed (writers_below in_machine l.walk.m.now.listed l.walk.m.now.definitions l.walk.bound) l.element l.env l.walk.places.now) l.fn.draft.path.items l.index (length l.draft.out.items) l.cells (drop l.index l.values));
+  total : after_writing l.fn.draft.out.items (claims_of l.fn.draft.claims.items) (items_written (element_written in_machine l.walk.m.now.listed (writers_below in_machine l.walk.m.now.listed l.walk.m.now.definitions l.walk.bound) l.element l.env l.walk.places.now) l.fn.draft.path.items 0 (length l.fn.draft.out.items) l.fn.cells l.values)
+      ≡ after_writing l.draft.out.items (claims_of l.draft.claims.items) (items_written (element_written in_machine l.walk.m.now.listed (writers_below in_machine l.walk.m.now.listed l.walk.m.now.definitions l.walk.bound) l.element l.env l.walk.places.now) l.fn.draft.path.items l.index (length l.draft.out.items) l.cells (drop l.index l.values));
 }

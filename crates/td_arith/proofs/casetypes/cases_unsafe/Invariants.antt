@@ -5,4 +5,4 @@ use Rattle.td_arith.proofs.casetypes.cases_unsafe.Given as goal
 
 -- what was found so far, or else what is left, decides
 abbrev pub invariant-loop-case : goal.invariant-loop-case
-invariant-loop-case l = first l.found (cases_unsafe (known_after [] l.guard) (drop l.case-index l.cases)) ≡ cases_unsafe (known_after [] l.guard) l.cases
+invariant-loop-case l = first l.found (cases_unsafe l.level (known_after [] l.guard) (drop l.case-index l.cases)) ≡ cases_unsafe l.level (known_after [] l.guard) l.cases

@@ -437,3 +437,11 @@ arrays::validate_shape-returns-in-UpToZero-clause-decides g t c =
     unwritten _ (λ b. element_up_to_zero a.element.now c.value_of-in-UpToZero.result b s.end s.pos cells) c.requires.empty_trace e.later e.whole e.end e.at
     (λ b. ap (λ (x : Extent). shape_meaning m.listed (senses m a.walk.now.bound) a.element.now x a.env.now a.walk.now.places.now b s.end s.pos cells) c.in-UpToZero.is
     ∙ (λ k. element_up_to_zero a.element.now (sym c.value_of-in-UpToZero.ensures k) b s.end s.pos cells)) (λ b h. e.step b cells h)
+
+pub arrays::validate_shape-returns-in-Given-clause-decides : goal.arrays::validate_shape-returns-in-Given-clause-decides
+arrays::validate_shape-returns-in-Given-clause-decides g t c =
+    let a = c.args in
+    let s = a.stream.now in
+    let m = a.walk.now.types.now.module.now in
+    accepts g.met.W.Words.reaches_itself s c.pos-in-Given.result _ c.requires.whole c.requires.empty_trace c.pos-in-Given.ensures
+    (λ b. ap (λ (x : Extent). shape_meaning m.listed (senses m a.walk.now.bound) a.element.now x a.env.now a.walk.now.places.now b s.end s.pos a.slate.now.cells.now) c.in-Given.is)

@@ -14,7 +14,7 @@ use Rattle.td_meaning.specs.Verdicts.{ending_of, frame_place, IsAt}
 use Rattle.td_stream.specs.StreamInvariant.{position}
 use Rattle.td_direct.specs.declared.counting.Content.{Content}
 use Rattle.td_direct.specs.declared.counting.Counted.{Counted}
-use Rattle.td_direct.specs.Counting.{IsCounted, IsPlain}
+use Rattle.td_direct.specs.Counting.{IsCounted, IsPlain, plain_number}
 use Rattle.td_direct.specs.Copying.{IsKept}
 use Rattle.td_direct.specs.Validates.{senses, Reads, OnlyRead, rest_meaning}
 use Rattle.td_direct.proofs.Stepping.{step_from, step_to, only_still}
@@ -28,7 +28,7 @@ pub fields::validate_plain-returns-clause-validates : goal.fields::validate_plai
 fields::validate_plain-returns-clause-validates g t c =
     let a = c.args in
     let s = a.stream.now in
-    let n = c.validate_bytes.new.stream in
+    let u = c.validate_bytes.new.stream in
     let m = a.walk.now.types.now.module.now in
     let f : FieldDef = a.field.now in
     let y = c.validate_bytes.new.slate in
@@ -38,9 +38,12 @@ fields::validate_plain-returns-clause-validates g t c =
     let place = field_place a.walk.now.ty (first_name f.parts) s.pos in
     let ends = c.in_ok-framed.ensures.ending cells ∙ (λ k. ending_within (frame_place a.walk.now.ty (Field (name k)) (c.pos-start.ensures k)) (ending_of v y.trace.now cells)) in
     let bytes = c.in_ok-verdict.ensures.decides in
-    from _ (λ b. plain_by m.listed (senses m a.walk.now.bound) a.walk.now.ty f a.later.now a.env.now a.walk.now.places.now b s.end s.pos a.slate.now.cells.now c.requires.none)
-    (followed (λ b. rest_meaning m.listed (senses m a.walk.now.bound) a.walk.now.ty f.parts a.later.now a.env.now 0 a.walk.now.places.now b s.end s.pos)
-    (framed c.in_ok-framed.field-0 place bytes (record { same_cells = refl; same_copies = refl; same_trace = refl; cells = refl; rooms = refl }) refl refl (c.in_ok-framed.ensures.at n.pos bytes.at) ends))
+    let n : ℕ = c.given_number-value.result in
+    let is : n ≡ plain_number f.element f.extent a.env.now a.walk.now.places.now s.end s.pos a.slate.now.cells.now =
+    c.given_number-value.ensures ∙ (λ k. plain_number f.element f.extent a.env.now a.walk.now.places.now (c.end.ensures k) (c.pos-start.ensures k) a.slate.now.cells.now) in
+    from _ (λ b. plain_by m.listed (senses m a.walk.now.bound) a.walk.now.ty f a.later.now a.env.now a.walk.now.places.now b s.end s.pos a.slate.now.cells.now n is c.requires.none)
+    (followed (λ b. rest_meaning m.listed (senses m a.walk.now.bound) a.walk.now.ty f.parts a.later.now a.env.now n a.walk.now.places.now b s.end s.pos)
+    (framed c.in_ok-framed.field-0 place bytes (record { same_cells = refl; same_copies = refl; same_trace = refl; cells = refl; rooms = refl }) refl refl (c.in_ok-framed.ensures.at u.pos bytes.at) ends))
 
 pub fields::validate_plain-returns-in_err-framed-clause-runs_out : goal.fields::validate_plain-returns-in_err-framed-clause-runs_out
 fields::validate_plain-returns-in_err-framed-clause-runs_out g t c = let p = err_from_is_err_and c.from_residual-in_err-framed.result c.from_residual-in_err-framed.ensures.1 in rw p.1 (
@@ -48,8 +51,9 @@ fields::validate_plain-returns-in_err-framed-clause-runs_out g t c = let p = err
     let s = a.stream.now in
     let m = a.walk.now.types.now.module.now in
     let f : FieldDef = a.field.now in
-    out_from _ (λ b. plain_by m.listed (senses m a.walk.now.bound) a.walk.now.ty f a.later.now a.env.now a.walk.now.places.now b s.end s.pos a.slate.now.cells.now c.requires.none)
-    (out_then (λ b. rest_meaning m.listed (senses m a.walk.now.bound) a.walk.now.ty f.parts a.later.now a.env.now 0 a.walk.now.places.now b s.end s.pos)
+    let n = plain_number f.element f.extent a.env.now a.walk.now.places.now s.end s.pos a.slate.now.cells.now in
+    out_from _ (λ b. plain_by m.listed (senses m a.walk.now.bound) a.walk.now.ty f a.later.now a.env.now a.walk.now.places.now b s.end s.pos a.slate.now.cells.now n refl c.requires.none)
+    (out_then (λ b. rest_meaning m.listed (senses m a.walk.now.bound) a.walk.now.ty f.parts a.later.now a.env.now n a.walk.now.places.now b s.end s.pos)
     (out_within (λ b. field_place a.walk.now.ty (first_name f.parts) s.pos)
     (out_left c.in_ok-verdict.ensures.decides (record { same_cells = refl; same_copies = refl; same_trace = refl; cells = refl; rooms = refl })))))
 
@@ -59,8 +63,9 @@ fields::validate_plain-returns-in_err-verdict-clause-runs_out g t c = let p = er
     let s = a.stream.now in
     let m = a.walk.now.types.now.module.now in
     let f : FieldDef = a.field.now in
-    out_from _ (λ b. plain_by m.listed (senses m a.walk.now.bound) a.walk.now.ty f a.later.now a.env.now a.walk.now.places.now b s.end s.pos a.slate.now.cells.now c.requires.none)
-    (out_then (λ b. rest_meaning m.listed (senses m a.walk.now.bound) a.walk.now.ty f.parts a.later.now a.env.now 0 a.walk.now.places.now b s.end s.pos)
+    let n = plain_number f.element f.extent a.env.now a.walk.now.places.now s.end s.pos a.slate.now.cells.now in
+    out_from _ (λ b. plain_by m.listed (senses m a.walk.now.bound) a.walk.now.ty f a.later.now a.env.now a.walk.now.places.now b s.end s.pos a.slate.now.cells.now n refl c.requires.none)
+    (out_then (λ b. rest_meaning m.listed (senses m a.walk.now.bound) a.walk.now.ty f.parts a.later.now a.env.now n a.walk.now.places.now b s.end s.pos)
     (out_within (λ b. field_place a.walk.now.ty (first_name f.parts) s.pos) c.in_err-verdict.ensures.runs_out)))
 
 pub fields::validate_content-returns-in-Number-clause-validates : goal.fields::validate_content-returns-in-Number-clause-validates

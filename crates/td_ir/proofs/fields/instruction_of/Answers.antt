@@ -84,10 +84,13 @@ returns-in-24 c = rw (c.in-24.is) refl
 pub returns-in-26 : goal.returns-in-26
 returns-in-26 c = rw (c.in-26.is) refl
 
+pub returns-in-27 : goal.returns-in-27
+returns-in-27 c = rw (c.in-27.is) refl
+
 pub returns-in_default : goal.returns-in_default
 returns-in_default c = elim (cases_lt c.args.f.number 26) [
   | inl few ↦ (let is : c.args.f.number ≡ 25 = omega (arith, c.in_default, few) in rw (is) refl)
   | inr more ↦
-      let past : 27 ≤ c.args.f.number = omega (arith, c.in_default, more) in
+      let past : 28 ≤ c.args.f.number = omega (arith, c.in_default, more) in
       sym (ap (λ (m : Fields → Instr). m c.args.f) (get_or_past makers _ _ past))
 ]

@@ -10,8 +10,8 @@ use Rattle.td_core.specs.declared.outcome.Spot.TheVariants.{Field}
 use Rattle.td_core.specs.declared.outcome.Reason.TheVariants.{Impossible}
 use Rattle.td_core.specs.declared.outcome.Verdict.{Verdict}
 use Rattle.td_core.specs.Outcome.{Ending, Behavior, Rejected, plain, and_then, ending_within}
-use Rattle.td_meaning.specs.Meaning.{elements, filled, field_number, extended, field_place, first_name}
-use Rattle.td_meaning.specs.Words64.{below, fields_meaning, content_meaning, shape_meaning, element_meaning, parts_meaning}
+use Rattle.td_meaning.specs.Meaning.{elements, filled, extended, field_place, first_name}
+use Rattle.td_meaning.specs.Words64.{below, fields_meaning, content_meaning, shape_meaning, element_meaning, parts_meaning, field_number}
 use Rattle.td_meaning.specs.Verdicts.{ending_of, frame_place}
 use Rattle.td_meaning.proofs.Below.{below_past}
 use Rattle.td_meaning_plain.proofs.Endings.{empty_at, then_same, field_by, elements_over, elements_on}
@@ -112,9 +112,9 @@ one_field-returns-in-Reject-clause-ending t c = λ later.
     let cells = c.content.new.slate.cells.items in
     let v : Verdict = c.in_ok-verdict.verdict in
     let name : c.first_name.result ≡ first_name f.parts = c.first_name.ensures ∙ ap first_name c.as_slice-parts.ensures in
-    let scope = ap (λ vs. (content_meaning a.walk.now.m.now.listed (below a.walk.now.m.now.listed a.walk.now.m.now.definitions a.walk.now.bound) f.element f.extent f.copy vs a.walk.now.places.now a.walk.now.message.now a.walk.now.end a.start a.slate.now.cells.items).ending) (sym c.as_slice.ensures.value) in
+    let scope = ap (λ vs. (content_meaning a.walk.now.m.now.listed (below a.walk.now.m.now.listed a.walk.now.m.now.definitions a.walk.now.bound) f.element f.extent f.copy vs a.walk.now.places.now a.walk.now.message.now a.walk.now.end a.start a.slate.now.cells.items).ending) (sym c.as_slice-3.ensures.value) in
     let framed = ap (ending_within (field_place a.ty (first_name f.parts) a.start)) (scope ∙ c.in_ok-verdict.ensures.ending) ∙ (λ k. ending_within (frame_place a.ty (Field (sym name k)) a.start) (ending_of v c.content.new.slate.trace cells)) ∙ sym (c.in_ok-pos.ensures.ending cells) in
-    let n = field_number f.element f.extent a.walk.now.message.now a.start in
+    let n = field_number f.element f.extent env a.walk.now.places.now a.walk.now.message.now a.walk.now.end a.start a.slate.now.cells.items in
     let rest = λ (q : ℕ) (cells : List ℕ). and_then (parts_meaning a.ty a.start n f.parts env a.walk.now.places.now q cells) (fields_meaning a.walk.now.m.now.listed (below a.walk.now.m.now.listed a.walk.now.m.now.definitions a.walk.now.bound) a.ty later (extended env n f.parts) a.walk.now.places.now a.walk.now.message.now a.walk.now.end) in
     field_by a.walk.now.m.now.listed (below a.walk.now.m.now.listed a.walk.now.m.now.definitions a.walk.now.bound) a.ty f later env a.walk.now.places.now a.walk.now.message.now a.walk.now.end a.start a.slate.now.cells.items _ framed
     ∙ ap (λ (w : Verdict). (and_then (plain (ending_of w c.framed.new.trace cells)) rest).ending) c.in-Reject.is
@@ -127,9 +127,11 @@ one_field-returns-in_ok-check_parts-in-Accept-clause-ending t c = λ later.
     let cells = c.content.new.slate.cells.items in
     let v : Verdict = c.in_ok-verdict.verdict in
     let name : c.first_name.result ≡ first_name f.parts = c.first_name.ensures ∙ ap first_name c.as_slice-parts.ensures in
-    let scope = ap (λ vs. (content_meaning a.walk.now.m.now.listed (below a.walk.now.m.now.listed a.walk.now.m.now.definitions a.walk.now.bound) f.element f.extent f.copy vs a.walk.now.places.now a.walk.now.message.now a.walk.now.end a.start a.slate.now.cells.items).ending) (sym c.as_slice.ensures.value) in
+    let scope = ap (λ vs. (content_meaning a.walk.now.m.now.listed (below a.walk.now.m.now.listed a.walk.now.m.now.definitions a.walk.now.bound) f.element f.extent f.copy vs a.walk.now.places.now a.walk.now.message.now a.walk.now.end a.start a.slate.now.cells.items).ending) (sym c.as_slice-3.ensures.value) in
     let framed = ap (ending_within (field_place a.ty (first_name f.parts) a.start)) (scope ∙ c.in_ok-verdict.ensures.ending) ∙ (λ k. ending_within (frame_place a.ty (Field (sym name k)) a.start) (ending_of v c.content.new.slate.trace cells)) ∙ sym (c.in_ok-pos.ensures.ending cells) in
-    let n = field_number f.element f.extent a.walk.now.message.now a.start in
+    let n = field_number f.element f.extent env a.walk.now.places.now a.walk.now.message.now a.walk.now.end a.start a.slate.now.cells.items in
+    let number : c.number_in-value.result ≡ n =
+    c.number_in-value.ensures ∙ (λ k. field_number f.element f.extent (c.as_slice.ensures.value k) a.walk.now.places.now a.walk.now.message.now a.walk.now.end a.start (c.as_slice-2.ensures.value k)) in
     let next = λ (vs : List ℕ). fields_meaning a.walk.now.m.now.listed (below a.walk.now.m.now.listed a.walk.now.m.now.definitions a.walk.now.bound) a.ty later vs a.walk.now.places.now a.walk.now.message.now a.walk.now.end in
     let rest = λ (q : ℕ) (cells : List ℕ). and_then (parts_meaning a.ty a.start n f.parts env a.walk.now.places.now q cells) (next (extended env n f.parts)) in
     let e = c.in_ok-check_parts-in-Accept.ensures in
@@ -137,11 +139,11 @@ one_field-returns-in_ok-check_parts-in-Accept-clause-ending t c = λ later.
     let given : cells ≡ c.as_mut_slice.result.now = sym c.as_mut_slice.ensures.value in
     let left : List ℕ = c.check_parts.new.cells in
     let back : left ≡ take c.content.new.slate.cells.len (left ++ drop (length left) cells) = sym (lent c.content.new.slate.cells.len left cells (c.check_parts.auto.cells ∙ c.as_mut_slice.ensures.len)) in
-    let parts = (λ k. parts_meaning a.ty a.start (sym c.field_number-value.ensures k) (sym c.as_slice-parts.ensures k) env a.walk.now.places.now c.in-Accept.pos (given k)) ∙ e.ending in
+    let parts = (λ k. parts_meaning a.ty a.start (sym number k) (sym c.as_slice-parts.ensures k) env a.walk.now.places.now c.in-Accept.pos (given k)) ∙ e.ending in
     field_by a.walk.now.m.now.listed (below a.walk.now.m.now.listed a.walk.now.m.now.definitions a.walk.now.bound) a.ty f later env a.walk.now.places.now a.walk.now.message.now a.walk.now.end a.start a.slate.now.cells.items _ framed
     ∙ ap (λ (u : Verdict). (and_then (plain (ending_of u c.framed.new.trace cells)) rest).ending) c.in-Accept.is
     ∙ ap (λ (t : Behavior). (and_then t (next (extended env n f.parts))).ending) parts
-    ∙ ap (λ (t : Behavior). t.ending) (then_same w c.check_parts.new.trace left (next (extended env n f.parts)) (next c.check_parts.new.env.items) (λ q g. ap (λ vs. next vs q left) ((λ k. extended env (sym c.field_number-value.ensures k) (sym c.as_slice-parts.ensures k)) ∙ sym (e.scope q g))))
+    ∙ ap (λ (t : Behavior). t.ending) (then_same w c.check_parts.new.trace left (next (extended env n f.parts)) (next c.check_parts.new.env.items) (λ q g. ap (λ vs. next vs q left) ((λ k. extended env (sym number k) (sym c.as_slice-parts.ensures k)) ∙ sym (e.scope q g))))
     ∙ ap (λ xs. (and_then (plain (ending_of w c.check_parts.new.trace xs)) (next c.check_parts.new.env.items)).ending) back
 
 pub shape-returns-in_ok-filling-in-Filling-clause-ending : goal.shape-returns-in_ok-filling-in-Filling-clause-ending

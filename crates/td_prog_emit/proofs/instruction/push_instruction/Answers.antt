@@ -79,3 +79,6 @@ returns-in-Mark c whole = recut (c.push_mark.ensures c.args.parts.now c.args.n w
 
 pub returns-in-Copy : goal.returns-in-Copy
 returns-in-Copy c whole = recut (c.push_copy.ensures whole) (ap (λ (j : Instr). text (pieces_of c.args.parts.now c.args.n whole c.args.depth j)) (sym c.in-Copy.is))
+
+pub returns-in-Left : goal.returns-in-Left
+returns-in-Left c whole = recut (c.push_left.ensures c.args.parts.now c.args.n whole) (ap (λ (j : Instr). text (pieces_of c.args.parts.now c.args.n whole c.args.depth j)) (sym c.in-Left.is))

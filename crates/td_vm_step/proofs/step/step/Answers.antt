@@ -1,4 +1,4 @@
-use Rattle.std.proofs.Common.{◌≡◌, ◌+◌, [], slice_index, sym, ap, ◌∙◌, arith}
+use Rattle.std.proofs.Common.{◌≡◌, ◌+◌, ◌-◌, [], slice_index, sym, ap, ◌∙◌, arith}
 use Rattle.td_num.specs.Lists.{is_among}
 use Rattle.td_ir.specs.State.{with_reg}
 use Rattle.td_ir.specs.Values.{bit}
@@ -87,6 +87,12 @@ returns-in-Set-clause-same g c = ran_self c.args.stream.now c.args.steps.now _ (
 
 pub returns-in-Mark-clause-same : goal.returns-in-Mark-clause-same
 returns-in-Mark-clause-same g c = ran_self c.args.stream.now c.args.steps.now _ (λ b. ap (λ j. effect c.args.level.now.code.parts.now c.args.level.now.n b c.args.level.now.places.now c.args.current.pc j (state_of c.args.regs.now c.args.slate.now.cells.now c.args.act.now c.args.stream.now)) c.in-Mark.is ∙ ap (λ x. plain (Goes (c.args.current.pc + 1) (record (state_of c.args.regs.now c.args.slate.now.cells.now c.args.act.now c.args.stream.now) { start = x }))) (sym c.pos-act.ensures))
+
+pub returns-in-Left-clause-same : goal.returns-in-Left-clause-same
+returns-in-Left-clause-same g c =
+    let s = c.args.stream.now in
+    let behind : end_of s - position s ≡ c.from-in-Left.result = ap (λ x. x - position s) (sym c.end-in-Left.ensures) ∙ ap (λ x. c.end-in-Left.result - x) (sym c.pos-in-Left.ensures) ∙ sym c.from-in-Left.ensures in
+    ran_self s c.args.steps.now _ (λ b. ap (λ j. effect c.args.level.now.code.parts.now c.args.level.now.n b c.args.level.now.places.now c.args.current.pc j (state_of c.args.regs.now c.args.slate.now.cells.now c.args.act.now c.args.stream.now)) c.in-Left.is ∙ ap (λ v. plain (Goes (c.args.current.pc + 1) (with_reg (state_of c.args.regs.now c.args.slate.now.cells.now c.args.act.now c.args.stream.now) c.in-Left.into v))) behind)
 
 pub returns-in-Rest-clause-same : goal.returns-in-Rest-clause-same
 returns-in-Rest-clause-same g c =

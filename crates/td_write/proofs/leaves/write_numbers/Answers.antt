@@ -9,12 +9,12 @@ use Rattle.td_write.proofs.Listed.{popped}
 use Rattle.td_write.proofs.leaves.write_numbers.Goals as goal
 
 pub returns-clause-ok : goal.returns-clause-ok
-returns-clause-ok c = λ cells.
+returns-clause-ok c = λ cells claims.
     let a = c.args in
     let l = c.loop-index in
     let none : drop l.index a.values.now ≡ [] = drop_all l.index a.values.now (omega (arith, c.loop-index-test.false)) in
     record {
-      total = l.invariant.total cells ∙ all_written (number_written a.number_type) a.path.now.items l.out.items l.index cells (drop l.index a.values.now) none;
+      total = l.invariant.total cells claims ∙ all_written (number_written a.number_type) a.path.now.items l.out.items l.index cells claims (drop l.index a.values.now) none;
       room = l.invariant.room;
       back = l.invariant.back;
     }
@@ -30,9 +30,9 @@ loop-index-preserved c =
     record {
       room = c.in-Ok.ensures.room;
       back = popped l.index l.path.items c.push.new.self.items c.pop.new.self.items (vec_len c.push.new.self) mid c.push.new.self.ok.0 c.pop.ensures.rest ∙ l.invariant.back;
-      total = λ cells.
-          l.invariant.total cells
-          ∙ one_more (number_written a.number_type) a.path.now.items l.out.items c.write_number.new.out.items l.index cells cells (drop l.index vs) (drop (l.index + 1) vs) v split (c.in-Ok.ensures.ok (a.path.now.items ++ l.index ∷ []) cells)
+      total = λ cells claims.
+          l.invariant.total cells claims
+          ∙ one_more (number_written a.number_type) a.path.now.items l.out.items c.write_number.new.out.items l.index cells cells claims claims (drop l.index vs) (drop (l.index + 1) vs) v split (c.in-Ok.ensures.ok (a.path.now.items ++ l.index ∷ []) cells claims)
           (λ e. c.if-len-start.false (omega (arith, e, c.len.ensures, c.len-start.ensures, c.write_number.new.out.ok.0, l.out.ok.0)));
     }
 
@@ -47,7 +47,7 @@ returns-in-Err-clause-err c = λ cells.
     let mid : c.push.new.self.items ≡ l.path.items ++ l.index ∷ [] = search rules in
     let at : c.push.new.self.items ≡ a.path.now.items ++ l.index ∷ [] = mid ∙ ap (λ x. x ++ l.index ∷ []) l.invariant.back in
     let here = halts_at c.in-Err.halt c.push.new.self.items (a.path.now.items ++ l.index ∷ []) (each (a.path.now.items ++ l.index ∷ []) (length l.out.items) cells v) (each (a.path.now.items ++ l.index ∷ []) (length l.out.items) cells v) at refl (c.in-Err.ensures.err (a.path.now.items ++ l.index ∷ []) cells) in
-    halts_total c.in-Err.halt c.push.new.self.items a.out.now.items l.out.items _ (items_written each a.path.now.items l.index (length l.out.items) cells (drop l.index vs)) (l.invariant.total cells)
+    halts_total c.in-Err.halt c.push.new.self.items a.out.now.items l.out.items [] [] _ (items_written each a.path.now.items l.index (length l.out.items) cells (drop l.index vs)) (l.invariant.total cells [])
     (halts_items c.in-Err.halt c.push.new.self.items each a.path.now.items l.index (length l.out.items) cells (drop l.index vs) (drop (l.index + 1) vs) v split here)
 
 pub returns-then-len-start-clause-err : goal.returns-then-len-start-clause-err
@@ -61,7 +61,7 @@ returns-then-len-start-clause-err c = λ cells.
     let mid : c.push.new.self.items ≡ l.path.items ++ l.index ∷ [] = search rules in
     let at : c.push.new.self.items ≡ a.path.now.items ++ l.index ∷ [] = mid ∙ ap (λ x. x ++ l.index ∷ []) l.invariant.back in
     let same : length c.write_number.new.out.items ≡ length l.out.items = omega (arith, c.if-len-start.true, c.len.ensures, c.len-start.ensures, c.write_number.new.out.ok.0, l.out.ok.0) in
-    let empty = one_empty each a.path.now.items l.out.items c.write_number.new.out.items l.index cells cells (drop l.index vs) (drop (l.index + 1) vs) v split (c.in-Ok.ensures.ok (a.path.now.items ++ l.index ∷ []) cells) same in
+    let empty = one_empty each a.path.now.items l.out.items c.write_number.new.out.items l.index cells cells [] [] (drop l.index vs) (drop (l.index + 1) vs) v split (c.in-Ok.ensures.ok (a.path.now.items ++ l.index ∷ []) cells []) same in
     let W = items_written each a.path.now.items l.index (length l.out.items) cells (drop l.index vs) in
-    halts_total (halt.Broken Size) c.push.new.self.items a.out.now.items l.out.items _ W (l.invariant.total cells)
+    halts_total (halt.Broken Size) c.push.new.self.items a.out.now.items l.out.items [] [] _ W (l.invariant.total cells [])
     (halts_at (halt.Broken Size) c.push.new.self.items (a.path.now.items ++ l.index ∷ []) W W at refl empty)

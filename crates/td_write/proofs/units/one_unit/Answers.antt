@@ -7,7 +7,9 @@ use Rattle.std.proofs.lemmas.List.{append-nil}
 use Rattle.td_num.specs.Numbers.{bytes_in}
 use Rattle.td_write_values.specs.Bytes.{number_bytes, unit_number, makes_unit}
 use Rattle.td_write_values.specs.Writing.{Refused, after_writing, unit_then, has_room, wanted}
-use Rattle.td_write.proofs.Pieces.{one_value, parts_none, all_left, twice_after}
+use Rattle.td_write.specs.Writes.{claims_of}
+use Rattle.td_write.proofs.Pieces.{one_value, parts_none, all_left}
+use Rattle.td_write.proofs.Totals.{twice_after}
 use Rattle.td_write_values.proofs.Lengths.{number_length}
 use Rattle.td_write.proofs.units.one_unit.Goals as goal
 
@@ -46,7 +48,7 @@ returns-in_default-clause-err c = λ later.
     ∙ l.invariant.rest go
     ∙ parts_none in_machine a.number_type (drop l.part-index parts) l.env.items a.places.now a.draft.now.path.items l.next c.len-start.result l.cells (drop l.next a.left.now.values.now) (λ ns. go (done ++ ns)) none
     ∙ ap (λ ns. go ns l.env.items l.next l.cells (drop l.next a.left.now.values.now)) (append-nil done) in
-    let put = after_writing (number_bytes a.number_type (unit_number parts done)) (later l.env.items l.next (c.len-start.result + bytes_in a.number_type.width) l.cells (drop l.next a.left.now.values.now)) in
+    let put = after_writing (number_bytes a.number_type (unit_number parts done)) [] (later l.env.items l.next (c.len-start.result + bytes_in a.number_type.width) l.cells (drop l.next a.left.now.values.now)) in
     let m : makes_unit a.number_type parts done ≡ false = ap (makes_unit a.number_type parts) (sym (all_left c.len-first.result c.as_slice.result.now l.env.items c.as_slice.ensures.value)) ∙ c.in_default.ensures in
     ended ∙ ap (λ b. wanted b Range a.draft.now.path.items (wanted (has_room c.len-start.result (bytes_in a.number_type.width)) Long a.draft.now.path.items put)) m ∙ ap (Refused Range) (sym l.invariant.back)
 
@@ -64,7 +66,7 @@ returns-then-not-has_room-clause-err c = λ later.
     ∙ l.invariant.rest go
     ∙ parts_none in_machine a.number_type (drop l.part-index parts) l.env.items a.places.now a.draft.now.path.items l.next c.len-start.result l.cells (drop l.next a.left.now.values.now) (λ ns. go (done ++ ns)) none
     ∙ ap (λ ns. go ns l.env.items l.next l.cells (drop l.next a.left.now.values.now)) (append-nil done) in
-    let put = after_writing (number_bytes a.number_type (unit_number parts done)) (later l.env.items l.next (c.len-start.result + bytes_in a.number_type.width) l.cells (drop l.next a.left.now.values.now)) in
+    let put = after_writing (number_bytes a.number_type (unit_number parts done)) [] (later l.env.items l.next (c.len-start.result + bytes_in a.number_type.width) l.cells (drop l.next a.left.now.values.now)) in
     let m : makes_unit a.number_type parts done ≡ true = ap (makes_unit a.number_type parts) (sym (all_left c.len-first.result c.as_slice.result.now l.env.items c.as_slice.ensures.value)) ∙ c.in-Some.ensures.0 in
     let r : has_room c.len-start.result (bytes_in a.number_type.width) ≡ false = ap (λ k. has_room c.len-start.result k) (sym c.byte_count.ensures) ∙ sym c.has_room.ensures ∙ search rules in
     ended ∙ (λ k. wanted (m k) Range a.draft.now.path.items (wanted (r k) Long a.draft.now.path.items put)) ∙ ap (Refused Long) (sym l.invariant.back)
@@ -83,7 +85,7 @@ returns-clause-ok c = λ later.
     ∙ l.invariant.rest go
     ∙ parts_none in_machine a.number_type (drop l.part-index parts) l.env.items a.places.now a.draft.now.path.items l.next c.len-start.result l.cells (drop l.next a.left.now.values.now) (λ ns. go (done ++ ns)) none
     ∙ ap (λ ns. go ns l.env.items l.next l.cells (drop l.next a.left.now.values.now)) (append-nil done) in
-    let put = after_writing (number_bytes a.number_type (unit_number parts done)) (later l.env.items l.next (c.len-start.result + bytes_in a.number_type.width) l.cells (drop l.next a.left.now.values.now)) in
+    let put = after_writing (number_bytes a.number_type (unit_number parts done)) [] (later l.env.items l.next (c.len-start.result + bytes_in a.number_type.width) l.cells (drop l.next a.left.now.values.now)) in
     let m : makes_unit a.number_type parts done ≡ true = ap (makes_unit a.number_type parts) (sym (all_left c.len-first.result c.as_slice.result.now l.env.items c.as_slice.ensures.value)) ∙ c.in-Some.ensures.0 in
     let r : has_room c.len-start.result (bytes_in a.number_type.width) ≡ true = ap (λ k. has_room c.len-start.result k) (sym c.byte_count.ensures) ∙ sym c.has_room.ensures ∙ search rules in
     let n : ℕ = unit_number parts done in
@@ -91,8 +93,9 @@ returns-clause-ok c = λ later.
     let value : c.in-Some.number ≡ n = c.in-Some.ensures.1 ∙ ap (unit_number parts) (all_left c.len-first.result c.as_slice.result.now l.env.items c.as_slice.ensures.value) in
     let grown : a.draft.now.out.items ++ bytes ≡ c.push_number.new.out.items = sym (c.in_ok-push_number.ensures ∙ ap (λ k. a.draft.now.out.items ++ number_bytes a.number_type k) value) in
     let size : c.len-start.result + bytes_in a.number_type.width ≡ length c.push_number.new.out.items = omega (arith, from, number_length a.number_type n, ap length grown, length-append a.draft.now.out.items bytes) in
+    let claims = claims_of a.draft.now.claims.items in
     record {
-      total = ap (after_writing a.draft.now.out.items) (ended ∙ (λ k. wanted (m k) Range a.draft.now.path.items (wanted (r k) Long a.draft.now.path.items put)))
-          ∙ twice_after a.draft.now.out.items bytes (later l.env.items l.next (c.len-start.result + bytes_in a.number_type.width) l.cells (drop l.next a.left.now.values.now))
-          ∙ (λ k. after_writing (grown k) (later l.env.items l.next (size k) l.cells (drop l.next a.left.now.values.now)));
+      total = ap (after_writing a.draft.now.out.items claims) (ended ∙ (λ k. wanted (m k) Range a.draft.now.path.items (wanted (r k) Long a.draft.now.path.items put)))
+          ∙ twice_after a.draft.now.out.items bytes claims [] (later l.env.items l.next (c.len-start.result + bytes_in a.number_type.width) l.cells (drop l.next a.left.now.values.now))
+          ∙ (λ k. after_writing (grown k) (append-nil claims k) (later l.env.items l.next (size k) l.cells (drop l.next a.left.now.values.now)));
     }
