@@ -39,12 +39,12 @@ static inline void seen_add(seen_message *s, unsigned piece, const void *word, u
   s->loads[s->count++] = (seen_load){piece, at, value};
 }
 
-/* The piece of a word that was loaded next, as far as its address says: loads rise, so it is the first one from the last load on that has
-   the word, and of which it wasn't loaded. */
+/* The piece of a word that was loaded next, as far as its address says. Loads rise within a piece, so a word that isn't above the last one
+   that was loaded is a later piece's: pieces may overlap. It is the first such piece that has the word. */
 static inline unsigned seen_piece_of(const seen_message *s, const void *word) {
   const uint8_t *at = word;
   unsigned p = s->count ? s->loads[s->count - 1].piece : 0;
-  if (s->count && s->loads[s->count - 1].at == at) p++;
+  if (s->count && s->loads[s->count - 1].at >= at) p++;
   while (p < s->piece_count && (at + 8 <= s->pieces[p].at || at >= s->pieces[p].at + s->pieces[p].size)) p++;
   return p;
 }
