@@ -22,7 +22,7 @@
 
 enum kind {
     CONST, MEMBER, OP, BITS, POS, JUMP, JUMP_IF, JUMP_UNLESS, CALL, RETURN, FETCH, SKIP_K, SKIP, REST, ZEROS, ZEROTERM, NARROW_K,
-    NARROW, DIVIDES, WHILE, AGAIN, WIDEN, FAIL, GET, SET, MARK, KINDS
+    NARROW, DIVIDES, WHILE, AGAIN, WIDEN, FAIL, GET, SET, MARK, LEFT, KINDS
 };
 
 /* The name of each kind, and its operands in the listing's order: x has 8 bits, a, b, c have 16, t and s (the site) 32, k 64. */
@@ -30,7 +30,7 @@ static const char *const NAMES[KINDS][2] = {
     {"Const", "ak"}, {"Member", "abt"}, {"Op", "axbc"}, {"Bits", "abxc"}, {"Pos", "a"}, {"Jump", "t"}, {"JumpIf", "bt"},
     {"JumpUnless", "bt"}, {"Call", "atks"}, {"Return", ""}, {"Fetch", "axcs"}, {"SkipK", "ks"}, {"Skip", "bs"}, {"Rest", ""},
     {"Zeros", "s"}, {"Zeroterm", "bcs"}, {"NarrowK", "ks"}, {"Narrow", "bs"}, {"Divides", "bks"}, {"While", "t"}, {"Again", "t"},
-    {"Widen", "s"}, {"Fail", "xs"}, {"Get", "ac"}, {"Set", "bc"}, {"Mark", ""},
+    {"Widen", "s"}, {"Fail", "xs"}, {"Get", "ac"}, {"Set", "bc"}, {"Mark", ""}, {"Left", "a"},
 };
 
 enum reason { NOT_ENOUGH, IMPOSSIBLE, LIST_SIZE, ACTION, CONSTRAINT, PADDING };
@@ -180,6 +180,7 @@ static int run_routine(struct run *run, size_t number, uint64_t *registers, cons
         case OP: r[at->a] = operate(at->x, r[at->b], r[at->c]); break;
         case BITS: r[at->a] = r[at->b] >> at->x & (at->c == 64 ? ~(uint64_t)0 : ((uint64_t)1 << at->c) - 1); break;
         case POS: r[at->a] = start; break;
+        case LEFT: r[at->a] = end - run->pos; break;
         case JUMP: at = &code->instruction[at->t] - 1; break;
         case JUMP_IF: if (r[at->b]) at = &code->instruction[at->t] - 1; break;
         case JUMP_UNLESS: if (!r[at->b]) at = &code->instruction[at->t] - 1; break;
