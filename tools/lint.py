@@ -1,7 +1,9 @@
-"""What td accepts and a user still wants to hear: cells that an accepted message doesn't set, and names that nothing names. What it knows
-of the language is the second reading's."""
+"""What td accepts and a user still wants to hear: cells that an accepted message doesn't set, fields that can't be meant so, and names
+that nothing names. What it knows of the language is the second reading's."""
 
 import re
+
+from reference.values import constant_of
 
 COMMENTS = re.compile(rb"//[^\n]*|/\*.*?\*/", re.S)
 WORD = re.compile(rb"[A-Za-z_][A-Za-z0-9_]*")
@@ -156,8 +158,17 @@ def said_of_text(text, trees, known):
                 yield "unused %s of %s" % (own, name)
 
 
+def said_of_types(types):
+    """Lines on fields: a value that is no part of the message and always the same."""
+    for made in types:
+        for field in (field for _, fields in groups_of(made) for field in fields) if made.kind != "enum" else ():
+            element = field.element
+            if element.kind == "given" and element.source == "expression" and constant_of(element.core) is not None:
+                yield "constant %s.%s" % (made.name, field.parts[0].name)
+
+
 def lines_of(text, module):
     """All lines on a text: `module` is what the second reading knows of it."""
     trees, known = module
     found = [line for number in known.entries for line in said_of_entry(known.types, number)]
-    return found + list(said_of_text(text, trees, known))
+    return found + list(said_of_types(known.types)) + list(said_of_text(text, trees, known))
