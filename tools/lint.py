@@ -161,7 +161,7 @@ def said_of_text(text, trees, known):
 def said_of_types(types):
     """Lines on fields: a value that is no part of the message and always the same."""
     for made in types:
-        for field in (field for _, fields in groups_of(made) for field in fields) if made.kind != "enum" else ():
+        for field in (field for _, fields in groups_of(made) for field in fields):
             element = field.element
             if element.kind == "given" and element.source == "expression" and constant_of(element.core) is not None:
                 yield "constant %s.%s" % (made.name, field.parts[0].name)
